@@ -1,0 +1,5 @@
+-- The calculus CCSK, in reading order: numbers in lists, terms, the rules of a step, the places of a step.
+pub mod Numbers
+pub mod Term
+pub mod Step
+pub mod Place

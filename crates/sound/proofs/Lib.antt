@@ -1,0 +1,10 @@
+-- The theorems on soundness, each file leaning only on those above it.
+pub mod Peel
+pub mod Conditions
+pub mod Order
+pub mod Kept
+pub mod Derive
+pub mod Top
+pub mod Reach
+pub mod Literal
+pub mod Decide
