@@ -1,0 +1,1 @@
+// The operations' promises have no code: their definitions are in specs/, their theorems in proofs/.
