@@ -7,14 +7,13 @@ use native.Mathlib.Omega.{arith}
 use Rattle.ccsk.specs.Numbers.{LeastFree}
 use Rattle.ccsk.specs.Term.{Term, Label, Key, Node, keys, size}
 use Rattle.ccsk.specs.Place.{ForwardAt}
-use Rattle.ccsk.proofs.Lists.{least-free}
 use Rattle.ccsk.proofs.Place.{Under, places-under}
 use Rattle.ccsk.proofs.ForwardDec.{forward?, label}
 use Rattle.format.specs.Read.{Reads, decode, Opened, Opened.refused, opened}
 use Rattle.operations.specs.Order.{pair, AtOrAfter, FreeStep, NoFreeStep, FirstFrom}
 use Rattle.operations.specs.Ask.{FirstStep}
 use Rattle.operations.proofs.Choose.{onRead}
-use Rattle.operations.proofs.Lists.{least-free-once}
+use Rattle.operations.proofs.Lists.{least-free-key, least-free-once}
 use Rattle.operations.proofs.Search.{FirstAt, first?, Outcome, same-pair}
 
 -- refusal, the mark 'found', p, q and label
@@ -40,7 +39,7 @@ place-bound t m p q w = under-pair (size t) p q (rw (w .3) at (places-under (w .
 
 -- a step with the least free key at (p, q)
 unfoldable pub free : Term → Key
-free t = least-free (keys t) .0
+free t = least-free-key (keys t) .0
 
 abbrev pub Step : Term → Node → Node → Type 0
 Step t p q = ForwardAt t (free t) (pair p q)
@@ -50,7 +49,7 @@ search t p q = first? (Step t) (λ p q. forward? t (free t) (pair p q)) (size t)
 
 free-right : (t : Term) → LeastFree (keys t) (free t)
 unfolding free
-free-right t = least-free (keys t) .2
+free-right t = least-free-key (keys t) .1
 
 -- the step of a promise is the step that was searched
 to-step : (t : Term) (p q : Node) (l : Label) → FreeStep t p q l → Step t p q

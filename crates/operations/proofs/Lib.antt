@@ -1,9 +1,11 @@
 -- The theorems on the operations, each file leaning only on those above it.
 pub mod Places
 pub mod Choose
-pub mod ChangeOnce
-pub mod Lists
-pub mod NumberOnce
 pub mod Search
+pub mod Lists
+pub mod ChangeOnce
+pub mod NumberOnce
 pub mod FirstOnce
 pub mod RowOnce
+pub mod Marked
+pub mod Sides

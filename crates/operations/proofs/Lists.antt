@@ -1,12 +1,14 @@
--- Ascending lists: exactly one lists given numbers. The least free key is one, too.
+-- Ascending lists: exactly one lists given numbers, and it can be computed. So can the least free key, and it is one.
 use mathlib.Core.Path.{_≡_, refl, sym, ap, _∙_}
 use mathlib.Core.Logic.{_⊎_, inl, inr, ⊎-elim, _↔_}
 use mathlib.Core.List.{List, [], _∷_}
-use Prim.Native.Nat.{ℕ, _<_}
+use Prim.Native.Nat.{ℕ, suc, _+_, _<_, _≤_}
 use native.Mathlib.Decide.{ℕ-discrete, decLt}
 use native.Mathlib.Omega.{arith}
-use Rattle.ccsk.specs.Numbers.{In, AscendingFrom, Lists, LeastFree}
-use Rattle.ccsk.proofs.Decide.{both}
+use Rattle.ccsk.specs.Numbers.{In, in?, distinct, AscendingFrom, Lists, LeastFree}
+use Rattle.ccsk.proofs.Decide.{both, isnt}
+use Rattle.ccsk.proofs.Lists.{row-distinct}
+use Rattle.operations.proofs.Search.{Least, search-up}
 
 -- what stands in a list that ascends from n is above n
 pub above : (n : ℕ) (x : List ℕ) → AscendingFrom n x → (k : ℕ) → In k x → n < k
@@ -115,3 +117,18 @@ least-free-once {j = j} {k = k} a b = pick (decLt j k) (decLt k j)
     pick (yes h) d = absurd (a .free (b .least j (a .pos) h))
     pick (no h) (yes i) = absurd (b .free (a .least k (b .pos) i))
     pick (no h) (no i) = omega arith
+
+-- the least free key is found by counting up from 1
+pub held : (j : ℕ) (x : List ℕ) → ¬ (¬ In j x) → In j x
+held j x f = pick (in? j x)
+  where
+    pick : Dec (In j x) → In j x
+    pick (yes i) = i
+    pick (no g) = absurd (f g)
+
+unfoldable pub least-free-key : (x : List ℕ) → (k : ℕ) × LeastFree x k
+least-free-key x = pick (search-up (λ k. ¬ In k x) (λ k. isnt (in? k x)) (suc (distinct x)) 1)
+  where
+    pick : Least (λ k. ¬ In k x) 1 ⊎ ((j : ℕ) → 1 ≤ j → j < 1 + suc (distinct x) → ¬ (¬ In j x)) → (k : ℕ) × LeastFree x k
+    pick (inl r) = (r .0, record { pos = r .1; free = r .2; least = λ j p h. held j x (λ f. omega (arith, r .3 j p f)) })
+    pick (inr f) = absurd (omega (arith, row-distinct (suc (distinct x)) x (λ k p h. held k x (f k p (omega arith)))))

@@ -4,12 +4,11 @@ use mathlib.Core.List.{List}
 use Prim.Native.Nat.{ℕ}
 use Rattle.ccsk.specs.Numbers.{distinct}
 use Rattle.ccsk.specs.Term.{Term, Key, keys, size}
-use Rattle.ccsk.proofs.Lists.{least-free}
 use Rattle.sound.proofs.Decide.{verdict, verdict-right, verdict-once}
 use Rattle.format.specs.Read.{decode, Opened, Opened.refused, opened}
 use Rattle.operations.specs.Ask.{ReadRecord, KeyCount, FreeKey, Soundness}
 use Rattle.operations.proofs.Choose.{onRead}
-use Rattle.operations.proofs.Lists.{least-free-once}
+use Rattle.operations.proofs.Lists.{least-free-key, least-free-once}
 
 -- a refusal number and one number
 abbrev pub Number : Type 0
@@ -66,20 +65,20 @@ count-once d e = equal (count-only d) (count-only e)
 
 -- least free key
 unfoldable pub free-answer : List ℕ → Number
-free-answer s = onRead (decode s) (λ c. (c, 0)) (λ t. (0, least-free (keys t) .0))
+free-answer s = onRead (decode s) (λ c. (c, 0)) (λ t. (0, least-free-key (keys t) .0))
 
 pub free-only : {s : List ℕ} {r : ℕ} {k : Key} → FreeKey s r k → free-answer s ≡ (r, k)
 unfolding free-answer
 free-only (FreeKey.unreadable e) = rw e
-free-only (FreeKey.done {t = t} {k = k} e f) = rw (e, least-free-once (least-free (keys t) .2) f)
+free-only (FreeKey.done {t = t} {k = k} e f) = rw (e, least-free-once (least-free-key (keys t) .1) f)
 
 pub free-some : (s : List ℕ) → Fits (FreeKey s) (free-answer s)
 unfolding free-answer
 free-some s = read (decode s) refl
   where
-    read : (o : Opened) → decode s ≡ o → Fits (FreeKey s) (onRead o (λ c. (c, 0)) (λ t. (0, least-free (keys t) .0)))
+    read : (o : Opened) → decode s ≡ o → Fits (FreeKey s) (onRead o (λ c. (c, 0)) (λ t. (0, least-free-key (keys t) .0)))
     read (refused c) e = FreeKey.unreadable e
-    read (opened t) e = FreeKey.done e (least-free (keys t) .2)
+    read (opened t) e = FreeKey.done e (least-free-key (keys t) .1)
 
 pub free-once : {s : List ℕ} {r r′ : ℕ} {k k′ : Key} → FreeKey s r k → FreeKey s r′ k′ → Equal (r, k) (r′, k′)
 free-once d e = equal (free-only d) (free-only e)
