@@ -9,3 +9,8 @@ pub mod FirstOnce
 pub mod RowOnce
 pub mod Marked
 pub mod Sides
+pub mod Readable
+pub mod Refused
+pub mod Kept
+pub mod Reversible
+pub mod Reachable
