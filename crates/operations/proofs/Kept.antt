@@ -80,7 +80,7 @@ range-redo (synch c d e) k g = (range-redo d k (g .0), range-redo e k (g .1))
 range-redo (restrict f d) k g = (g .0, range-redo d k (g .1))
 
 -- two terms with the same blank form have the same size and the same depth
-same-shape : (t u : Term) → blank t ≡ blank u → (size t ≡ size u) × (depth t ≡ depth u)
+pub same-shape : (t u : Term) → blank t ≡ blank u → (size t ≡ size u) × (depth t ≡ depth u)
 same-shape t u e = (sym (size-blank t) ∙ ap size e ∙ size-blank u, sym (depth-blank t) ∙ ap depth e ∙ depth-blank u)
 
 pub fits-blank : (t : Term) → Fits t → Fits (blank t)

@@ -12,5 +12,7 @@ pub mod Sides
 pub mod Readable
 pub mod Refused
 pub mod Kept
+pub mod KeyPlaces
 pub mod Reversible
 pub mod Reachable
+pub mod Laws
