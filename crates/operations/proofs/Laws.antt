@@ -16,7 +16,7 @@ use Rattle.operations.specs.Change.{ForwardStep, UndoStep}
 use Rattle.operations.specs.Runs.{KeyIn, HoldsAt}
 use Rattle.operations.proofs.ChangeOnce.{undo-step-once}
 use Rattle.operations.proofs.KeyPlaces.{key-at-places}
-use Rattle.operations.proofs.Refused.{reads-one}
+use Rattle.operations.proofs.Readable.{reads-one}
 use Rattle.operations.proofs.Reversible.{forward-done, forward-readable, undo-done, forward-adds-its-key}
 
 -- the key of an allowed forward step stands nowhere before

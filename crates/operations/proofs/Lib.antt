@@ -10,7 +10,6 @@ pub mod RowOnce
 pub mod Marked
 pub mod Sides
 pub mod Readable
-pub mod Refused
 pub mod Kept
 pub mod KeyPlaces
 pub mod Reversible

@@ -22,8 +22,7 @@ use Rattle.format.proofs.Round.{decode-encode}
 use Rattle.operations.specs.Change.{ForwardStep, UndoStep, BlankForm}
 use Rattle.operations.specs.Ask.{KeyCount, Soundness}
 use Rattle.operations.specs.Runs.{ForwardRun, UndoRun, NoUndo}
-use Rattle.operations.proofs.Readable.{encode-read, read-fits}
-use Rattle.operations.proofs.Refused.{not-refused-zero, reads-one}
+use Rattle.operations.proofs.Readable.{not-refused-zero, reads-one, encode-read, read-fits}
 use Rattle.operations.proofs.Kept.{encode-bytes, fits-blank, fits-undo, fits-forward, range-key}
 use Rattle.operations.proofs.Reversible.{Stepped, forward-done, forward-readable, forward-makes, as-pair, Undone, undo-done, undo-readable, undo-makes, blank-done, blank-makes}
 

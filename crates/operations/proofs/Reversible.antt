@@ -21,8 +21,7 @@ use Rattle.operations.specs.Order.{pair}
 use Rattle.operations.specs.Change.{ForwardStep, UndoStep, BlankForm}
 use Rattle.operations.specs.Ask.{KeyCount}
 use Rattle.operations.specs.Runs.{KeyIn}
-use Rattle.operations.proofs.Readable.{encode-read, read-fits}
-use Rattle.operations.proofs.Refused.{not-refused-zero, reads-one}
+use Rattle.operations.proofs.Readable.{not-refused-zero, reads-one, encode-read, read-fits}
 use Rattle.operations.proofs.Kept.{encode-bytes, fits-undo, fits-forward}
 
 -- what an allowed forward step and an allowed undo come from
