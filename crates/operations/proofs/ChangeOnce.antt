@@ -1,9 +1,8 @@
 -- Forward step, undo, blank form: for every input exactly one answer fits the promise, and it can be computed.
-use mathlib.Core.Path.{_≡_, refl, ap, sym, _∙_}
+use mathlib.Core.Path.{_≡_, refl, sym, _∙_}
 use mathlib.Core.List.{List}
-use Prim.Native.Nat.{ℕ, _<_}
+use Prim.Native.Nat.{ℕ}
 use native.Mathlib.Decide.{ℕ-discrete}
-use native.Mathlib.Omega.{arith}
 use Rattle.ccsk.specs.Numbers.{distinct}
 use Rattle.ccsk.specs.Term.{Term, Label, Key, Node, Has, keys, blank}
 use Rattle.ccsk.specs.Step.{Undo, Undoable}
@@ -15,7 +14,7 @@ use Rattle.ccsk.proofs.Undo.{key-pos, present, undo-once}
 use Rattle.ccsk.proofs.Forward.{fresh-before}
 use Rattle.ccsk.proofs.ForwardDec.{forward?}
 use Rattle.ccsk.proofs.UndoDec.{undo?}
-use Rattle.format.specs.Read.{Reads, Refuses, decode, Opened, Opened.refused, opened}
+use Rattle.format.specs.Read.{Reads, decode, Opened, Opened.refused, opened}
 use Rattle.format.specs.Encode.{encode}
 use Rattle.operations.specs.Order.{pair, ArePlaces}
 use Rattle.operations.specs.Change.{ForwardStep, UndoStep, BlankForm}

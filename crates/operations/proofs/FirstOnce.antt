@@ -1,7 +1,7 @@
 -- First forward step at or after (p, q): for every input exactly one answer fits the promise, and it can be computed.
 use mathlib.Core.Path.{_≡_, refl, ap, sym, _∙_}
-use mathlib.Core.Logic.{_⊎_, inl, inr}
-use mathlib.Core.List.{List, [], _∷_}
+use mathlib.Core.Logic.{inl, inr}
+use mathlib.Core.List.{List}
 use Prim.Native.Nat.{ℕ, zero, suc, _<_}
 use native.Mathlib.Omega.{arith}
 use Rattle.ccsk.specs.Numbers.{LeastFree}
@@ -10,11 +10,11 @@ use Rattle.ccsk.specs.Place.{ForwardAt}
 use Rattle.ccsk.proofs.Place.{Under, places-under}
 use Rattle.ccsk.proofs.ForwardDec.{forward?, label}
 use Rattle.format.specs.Read.{Reads, decode, Opened, Opened.refused, opened}
-use Rattle.operations.specs.Order.{pair, AtOrAfter, FreeStep, NoFreeStep, FirstFrom}
+use Rattle.operations.specs.Order.{pair, FreeStep, NoFreeStep, FirstFrom}
 use Rattle.operations.specs.Ask.{FirstStep}
 use Rattle.operations.proofs.Choose.{onRead}
 use Rattle.operations.proofs.Lists.{least-free-key, least-free-once}
-use Rattle.operations.proofs.Search.{FirstAt, first?, Outcome, same-pair}
+use Rattle.operations.proofs.Search.{first?, Outcome, same-pair}
 
 -- refusal, the mark 'found', p, q and label
 abbrev pub Found : Type 0
@@ -44,7 +44,7 @@ free t = least-free-key (keys t) .0
 abbrev pub Step : Term → Node → Node → Type 0
 Step t p q = ForwardAt t (free t) (pair p q)
 
-unfoldable pub search : (t : Term) (p q : Node) → Outcome (Step t) (λ p q. forward? t (free t) (pair p q)) (size t) (place-bound t (free t)) p q
+unfoldable pub search : (t : Term) (p q : Node) → Outcome (Step t) p q
 search t p q = first? (Step t) (λ p q. forward? t (free t) (pair p q)) (size t) (place-bound t (free t)) p q
 
 free-right : (t : Term) → LeastFree (keys t) (free t)
@@ -64,7 +64,7 @@ from-step t p q w = (free t, free-right t, (w, refl))
 step-label : (t : Term) (p q p′ q′ : Node) (l : Label) (w : Step t p q) → FreeStep t p′ q′ l → p ≡ p′ → q ≡ q′ → w .0 ≡ l
 step-label t p q p′ q′ l w f a b = label-same t (free t) (f .0) (pair p q) (pair p′ q′) (least-free-once (free-right t) (f .1)) (rw (a, b)) w (f .2 .0) ∙ f .2 .1
 
-abbrev shown : {t : Term} (p q : Node) → ((p′ : Node) × (q′ : Node) × FirstAt (Step t) p q p′ q′) ⊎ ((p′ q′ : Node) → AtOrAfter p q p′ q′ → ¬ Step t p′ q′) → Found
+abbrev shown : {t : Term} (p q : Node) → Outcome (Step t) p q → Found
 shown p q (inl r) = (0, 1, r .0, r .1, r .2 .holds .0)
 shown p q (inr f) = (0, 0, 0, 0, 0)
 
@@ -75,11 +75,11 @@ found-same : (p q p′ q′ : Node) (l l′ : Label) → p ≡ p′ → q ≡ q�
 found-same p q p′ q′ l l′ a b c = rw (a, b, c)
 
 module _ (t : Term) (p q : Node) where
-  none-shown : (o : ((p′ : Node) × (q′ : Node) × FirstAt (Step t) p q p′ q′) ⊎ ((p′ q′ : Node) → AtOrAfter p q p′ q′ → ¬ Step t p′ q′)) → NoFreeStep t p q → shown p q o ≡ (0, 0, 0, 0, 0)
+  none-shown : (o : Outcome (Step t) p q) → NoFreeStep t p q → shown p q o ≡ (0, 0, 0, 0, 0)
   none-shown (inl r) f = let w = r .2 .holds in absurd (f (r .0) (r .1) (w .0) (r .2 .after) (from-step t (r .0) (r .1) w))
   none-shown (inr g) f = refl
 
-  found-shown : (p′ q′ : Node) (l : Label) (o : ((p′ : Node) × (q′ : Node) × FirstAt (Step t) p q p′ q′) ⊎ ((p′ q′ : Node) → AtOrAfter p q p′ q′ → ¬ Step t p′ q′)) → FirstFrom t p q p′ q′ l → shown p q o ≡ (0, 1, p′, q′, l)
+  found-shown : (p′ q′ : Node) (l : Label) (o : Outcome (Step t) p q) → FirstFrom t p q p′ q′ l → shown p q o ≡ (0, 1, p′, q′, l)
   found-shown p′ q′ l (inl r) f =
       let w = r .2 .holds in
       let e = same-pair (r .0) (r .1) p′ q′ (r .2 .least p′ q′ (f .after) (to-step t p′ q′ l (f .step))) (f .least (r .0) (r .1) (w .0) (r .2 .after) (from-step t (r .0) (r .1) w)) in
@@ -96,7 +96,7 @@ pub first-some : (s : List ℕ) (p q : Node) → Fits (FirstStep s p q) (first-a
 unfolding first-answer
 first-some s p q = read (decode s) refl
   where
-    tests : (t : Term) → Reads s t → (o : ((p′ : Node) × (q′ : Node) × FirstAt (Step t) p q p′ q′) ⊎ ((p′ q′ : Node) → AtOrAfter p q p′ q′ → ¬ Step t p′ q′)) → Fits (FirstStep s p q) (shown p q o)
+    tests : (t : Term) → Reads s t → (o : Outcome (Step t) p q) → Fits (FirstStep s p q) (shown p q o)
     tests t e (inl r) = FirstStep.found e (record { step = from-step t (r .0) (r .1) (r .2 .holds); after = r .2 .after; least = λ p″ q″ l″ a f. r .2 .least p″ q″ a (to-step t p″ q″ l″ f) })
     tests t e (inr g) = FirstStep.none e (λ p′ q′ l a f. g p′ q′ a (to-step t p′ q′ l f))
 

@@ -2,12 +2,12 @@
 use mathlib.Core.Path.{_≡_, refl, ap, sym, _∙_}
 use mathlib.Core.Logic.{inl, inr}
 use mathlib.Core.List.{List, [], _∷_, _++_}
-use Prim.Native.Nat.{ℕ, zero, suc, _+_, _<_, _≤_, _/_, _%_, max}
+use Prim.Native.Nat.{ℕ, suc, _≤_}
 use native.Mathlib.Omega.{arith}
 use Rattle.ccsk.specs.Term.{Term, Label, Key, nil, pre, cho, par, res, Has, blank, size}
 use Rattle.ccsk.specs.Step.{Forward, Undo, Undo.top, Undo.prefix, Undo.choice₁, Undo.choice₂, Undo.par₁, Undo.par₂, Undo.synch, Undo.restrict}
 use Rattle.ccsk.proofs.Loop.{undo-of-forward}
-use Rattle.ccsk.proofs.Undo.{blank-kept, present}
+use Rattle.ccsk.proofs.Undo.{blank-kept}
 use Rattle.format.specs.Encode.{encode, depth, InRange, Fits, Bytes}
 
 -- the record of a term in range is bytes

@@ -1,6 +1,6 @@
 -- After a forward step its key stands exactly at the step's places.
-use mathlib.Core.Path.{_≡_, refl, ap, sym, _∙_}
-use mathlib.Core.Logic.{_⊎_, inl, inr, ⊎-elim, _↔_}
+use mathlib.Core.Path.{_≡_, refl}
+use mathlib.Core.Logic.{inl, inr, ⊎-elim, _↔_}
 use mathlib.Core.Bool.{Bool, true, false, cond}
 use mathlib.Core.List.{List, [], _∷_, _++_, append-nil}
 use Prim.Native.Nat.{ℕ, zero, suc, _+_, _-_, _<_, _≤_}
@@ -46,10 +46,14 @@ beside p n x y {L} {R} u l r = pick (decLt p n)
     e = omega arith
 
     pick : Dec (p < n) → cond (ltb p n) L R ↔ In (suc p) (shift 1 x ++ shift (1 + n) y)
-    pick (yes h) = rw (lt-ltb p n h) (λ a. in-left (suc p) (shift 1 x) (shift (1 + n) y) (below p x l .0 a),
-        λ i. ⊎-elim (below p x l .1) (λ j. absurd (omega (arith, shift-in (1 + n) (suc p) y .0 j .0))) (in-either (suc p) (shift 1 x) (shift (1 + n) y) i))
-    pick (no h) = rw (le-ltb p n (omega arith)) (λ a. in-right (suc p) (shift 1 x) (shift (1 + n) y) (shift-in (1 + n) (suc p) y .1 (omega arith, rw e (r .0 a))),
-        λ i. ⊎-elim (λ j. absurd (h (under-in n p x u (rw (one p) at (shift-in 1 (suc p) x .0 j .1))))) (λ j. r .1 (rw e at (shift-in (1 + n) (suc p) y .0 j .1))) (in-either (suc p) (shift 1 x) (shift (1 + n) y) i))
+    pick (yes h) = rw (lt-ltb p n h) (
+      λ a. in-left (suc p) (shift 1 x) (shift (1 + n) y) (below p x l .0 a),
+      λ i. ⊎-elim (below p x l .1) (λ j. absurd (omega (arith, shift-in (1 + n) (suc p) y .0 j .0))) (in-either (suc p) (shift 1 x) (shift (1 + n) y) i),
+    )
+    pick (no h) = rw (le-ltb p n (omega arith)) (
+      λ a. in-right (suc p) (shift 1 x) (shift (1 + n) y) (shift-in (1 + n) (suc p) y .1 (omega arith, rw e (r .0 a))),
+      λ i. ⊎-elim (λ j. absurd (h (under-in n p x u (rw (one p) at (shift-in 1 (suc p) x .0 j .1))))) (λ j. r .1 (rw e at (shift-in (1 + n) (suc p) y .0 j .1))) (in-either (suc p) (shift 1 x) (shift (1 + n) y) i),
+    )
       where
         one : (p : ℕ) → suc p - 1 ≡ p
         one p = omega arith

@@ -1,9 +1,8 @@
 -- What a reader may expect of a step, on bytes: where its key stands, what it writes, which label it answers, and that an undo is one.
-use mathlib.Core.Path.{_≡_, refl, ap, sym, _∙_}
+use mathlib.Core.Path.{_≡_, ap, sym, _∙_}
 use mathlib.Core.Logic.{_↔_}
 use mathlib.Core.List.{List, [], _∷_}
-use Prim.Native.Nat.{ℕ, zero, suc, _<_, _≤_}
-use native.Mathlib.Omega.{arith}
+use Prim.Native.Nat.{ℕ, suc, _≤_}
 use Rattle.ccsk.specs.Numbers.{In}
 use Rattle.ccsk.specs.Term.{Term, Label, Key, Node, Co}
 use Rattle.ccsk.specs.Place.{marks}
@@ -32,7 +31,9 @@ forward-key-at-its-places {b = b} {p = p} {q = q} {m = m} h k a t e x =
 
 -- it writes its key at its places and changes nothing else
 pub forward-writes-its-key : {s b : List ℕ} {p q : Node} {m : Key} {l : Label} → ForwardStep s p q m 0 l b → (t : Term) → Reads s t → b ≡ encode (marks m (pair p q) t)
-forward-writes-its-key {s} {p = p} {q = q} {m = m} a t e = let d = forward-done a in sym (d .bytes) ∙ ap encode (sym (step-marks (d .step)) ∙ (ap (λ x. marks m x (d .before)) (d .at) ∙ ap (marks m (pair p q)) (reads-one s (d .reads) e)))
+forward-writes-its-key {s} {p = p} {q = q} {m = m} a t e =
+    let d = forward-done a in
+    sym (d .bytes) ∙ ap encode (sym (step-marks (d .step)) ∙ (ap (λ x. marks m x (d .before)) (d .at) ∙ ap (marks m (pair p q)) (reads-one s (d .reads) e)))
 
 -- an undo makes every m 0 and changes nothing else
 pub undo-clears-its-key : {s b : List ℕ} {m : Key} {l : Label} → UndoStep s m 0 l b → (t : Term) → Reads s t → b ≡ encode (clear m t)

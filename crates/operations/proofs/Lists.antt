@@ -1,5 +1,5 @@
 -- Ascending lists: exactly one lists given numbers, and it can be computed. So can the least free key, and it is one.
-use mathlib.Core.Path.{_≡_, refl, sym, ap, _∙_}
+use mathlib.Core.Path.{_≡_, refl, sym, _∙_}
 use mathlib.Core.Logic.{_⊎_, inl, inr, ⊎-elim, _↔_}
 use mathlib.Core.List.{List, [], _∷_}
 use Prim.Native.Nat.{ℕ, suc, _+_, _<_, _≤_}
@@ -101,8 +101,10 @@ module _ (P : ℕ → Type 0) (p? : (k : ℕ) → Dec (P k)) where
   pass-holds j (k ∷ x) = pick (both (decLt 0 k) (p? k)) (pass-holds j x)
     where
       pick : (d : Dec ((0 < k) × P k)) → In j (pass x) ↔ (((0 < j) × P j) × In j x) → In j (keep (pass x) d) ↔ (((0 < j) × P j) × In j (k ∷ x))
-      pick (yes h) f = (λ i. ⊎-elim (λ e. (rw e h, inl e)) (λ z. (f .0 z .0, inr (f .0 z .1))) (insert-holds k j (pass x) .0 i),
-          λ i. insert-holds k j (pass x) .1 (⊎-elim inl (λ z. inr (f .1 (i .0, z))) (i .1)))
+      pick (yes h) f = (
+        λ i. ⊎-elim (λ e. (rw e h, inl e)) (λ z. (f .0 z .0, inr (f .0 z .1))) (insert-holds k j (pass x) .0 i),
+        λ i. insert-holds k j (pass x) .1 (⊎-elim inl (λ z. inr (f .1 (i .0, z))) (i .1)),
+      )
       pick (no h) f = (λ i. (f .0 i .0, inr (f .0 i .1)), λ i. f .1 (i .0, ⊎-elim (λ e. absurd (h (rw e at (i .0)))) (λ z. z) (i .1)))
 
   -- where P holds only of numbers of x

@@ -92,15 +92,24 @@ pub marked :
     × UndoStep crossed 2 8 0 crossed
 unfolding decode read node kindOf finish encode forward-answer forward-of undo-answer undo-of sound-answer places? prefix? forward? do-zero do-pre do-cho do-par do-res below? unshift zero? size shift places undo? has? std? co? on? channel? verdict waits? chosen? twice? paired? split? hidden? apart? two? keys? each? ordered? acyclic? peel look find empty above? before? labels keys without decLe ℕ-discrete decLt
 marked = (
-  forward-computed refl, undo-computed refl,
-  undo-computed refl, undo-computed refl,
+  forward-computed refl,
   undo-computed refl,
   undo-computed refl,
-  forward-computed refl, forward-computed refl,
+  undo-computed refl,
+  undo-computed refl,
+  undo-computed refl,
   forward-computed refl,
   forward-computed refl,
   forward-computed refl,
-  sound-computed refl, sound-computed refl,
-  sound-computed refl, sound-computed refl,
-  sound-computed refl, sound-computed refl,
-  sound-computed refl, undo-computed refl, undo-computed refl)
+  forward-computed refl,
+  forward-computed refl,
+  sound-computed refl,
+  sound-computed refl,
+  sound-computed refl,
+  sound-computed refl,
+  sound-computed refl,
+  sound-computed refl,
+  sound-computed refl,
+  undo-computed refl,
+  undo-computed refl,
+)

@@ -3,7 +3,7 @@ use mathlib.Core.Path.{_≡_, refl, ap, sym, _∙_}
 use mathlib.Core.List.{List}
 use Prim.Native.Nat.{ℕ}
 use Rattle.ccsk.specs.Numbers.{distinct}
-use Rattle.ccsk.specs.Term.{Term, Key, keys, size}
+use Rattle.ccsk.specs.Term.{Key, keys, size}
 use Rattle.sound.proofs.Decide.{verdict, verdict-right, verdict-once}
 use Rattle.format.specs.Read.{decode, Opened, Opened.refused, opened}
 use Rattle.operations.specs.Ask.{ReadRecord, KeyCount, FreeKey, Soundness}

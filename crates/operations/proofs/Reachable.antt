@@ -2,29 +2,32 @@
 use mathlib.Core.Path.{_≡_, refl, ap, sym, _∙_}
 use mathlib.Core.Logic.{_⊎_, inl, inr, _↔_}
 use mathlib.Core.List.{List, [], _∷_}
-use Prim.Native.Nat.{ℕ, zero, suc, _<_, _≤_}
+use Prim.Native.Nat.{ℕ, suc, _<_, _≤_}
 use native.Mathlib.Omega.{arith}
-use Rattle.ccsk.specs.Numbers.{distinct}
-use Rattle.ccsk.specs.Term.{Term, Label, Key, Node, Std, keys, blank}
+use lib.ListN.{length}
+use Rattle.ccsk.specs.Numbers.{distinct, Lists}
+use Rattle.ccsk.specs.Term.{Term, Label, Key, Node, Std, Has, keys, blank}
 use Rattle.ccsk.specs.Step.{Forward, Undo}
 use Rattle.ccsk.proofs.Loop.{undo-of-forward}
-use Rattle.ccsk.proofs.Undo.{present}
+use Rattle.ccsk.proofs.Undo.{key-pos, present}
 use Rattle.ccsk.proofs.Keys.{std-keys}
 use Rattle.ccsk.proofs.Place.{step-placed}
-use Rattle.sound.specs.Sound.{Sound, Verdict, sound}
+use Rattle.sound.specs.Sound.{Sound, sound}
 use Rattle.sound.specs.Run.{Run, Undos}
 use Rattle.sound.proofs.Kept.{sound-undo, sound-redo}
-use Rattle.sound.proofs.Derive.{UndoWith}
-use Rattle.sound.proofs.Reach.{undo-some, sound-iff-reachable, undos-end}
+use Rattle.sound.proofs.Order.{last}
+use Rattle.sound.proofs.Derive.{UndoWith, Last}
+use Rattle.sound.proofs.Reach.{undo-last, undo-some, sound-iff-reachable, undos-end}
 use Rattle.format.specs.Read.{Reads}
 use Rattle.format.specs.Encode.{encode, Fits, Bytes}
 use Rattle.format.proofs.Round.{decode-encode}
+use Rattle.operations.specs.Order.{WaitsFor}
 use Rattle.operations.specs.Change.{ForwardStep, UndoStep, BlankForm}
-use Rattle.operations.specs.Ask.{KeyCount, Soundness}
+use Rattle.operations.specs.Ask.{KeyCount, Filled, short, filled, WaitingList, Soundness}
 use Rattle.operations.specs.Runs.{ForwardRun, UndoRun, NoUndo}
 use Rattle.operations.proofs.Readable.{not-refused-zero, reads-one, encode-read, read-fits}
-use Rattle.operations.proofs.Kept.{encode-bytes, fits-blank, fits-undo, fits-forward, range-key}
-use Rattle.operations.proofs.Reversible.{Stepped, forward-done, forward-readable, forward-makes, as-pair, Undone, undo-done, undo-readable, undo-makes, blank-done, blank-makes}
+use Rattle.operations.proofs.Kept.{fits-blank, fits-undo, fits-forward, range-key}
+use Rattle.operations.proofs.Reversible.{forward-done, forward-readable, forward-makes, as-pair, undo-done, undo-readable, blank-done, blank-makes}
 
 -- what verdict 0 comes from
 sound-done : {s : List ℕ} → Soundness s 0 0 → (t : Term) × Reads s t × Sound t
@@ -115,3 +118,31 @@ undo-run-ends {n} {s} {b} h a r f =
     let i = sound-done a in let j = undos-on-terms (i .0) r h (i .1) in
     let z = undos-end (j .run) (i .2) (λ m l v d. f m l (encode v) (UndoStep.done (j .reads) d)) in
     (count-makes n (i .1) (sym (z .0)), blank-makes n b (i .1) (sym (z .0)) (ap encode (sym (z .1)) ∙ j .bytes))
+
+-- an empty row takes an empty list only
+filled-none : {x row row′ : List ℕ} {r n : ℕ} → Filled x row r n row′ → r ≡ 0 → n ≡ 0 → length x ≡ 0
+filled-none (short h) e f = absurd (omega arith)
+filled-none (filled h) e f = f
+
+none-listed : (P : ℕ → Type 0) (x : List ℕ) → Lists P x → length x ≡ 0 → (n : ℕ) → 0 < n → ¬ P n
+none-listed P [] l e n h i = l .1 n .1 (h, i)
+none-listed P (a ∷ x) l e n h i = omega arith
+
+waiting-none : {s : List ℕ} {m : Key} → WaitingList s m [] 0 0 [] → (t : Term) × Reads s t × (0 < m) × Has m t × Last m t
+waiting-none {s} (WaitingList.unreadable e) = not-refused-zero s e
+waiting-none {m = m} (WaitingList.done {t = t} {l = x} e h i l f) = (t, e, h, i, λ n p g a. none-listed (WaitsFor t m) x l (filled-none f refl refl) n p (g, a))
+
+undo-makes-one : {s : List ℕ} {t : Term} {m : Key} → Reads s t → (l : Label) × UndoWith t m l → (l : Label) × (b : List ℕ) × UndoStep s m 0 l b
+undo-makes-one e r = (r .0, encode (r .1 .0), UndoStep.done e (r .1 .1))
+
+-- in a sound record an undo is allowed exactly if its key stands there and waits for no other
+pub undo-iff-waits-for-none : {s : List ℕ} {m : Key} → Soundness s 0 0 → ((l : Label) × (b : List ℕ) × UndoStep s m 0 l b) ↔ WaitingList s m [] 0 0 []
+undo-iff-waits-for-none {s} {m} a = (there, back)
+  where
+    there : (l : Label) × (b : List ℕ) × UndoStep s m 0 l b → WaitingList s m [] 0 0 []
+    there u = let d = undo-done (u .2) in
+        WaitingList.done {l = []} (d .reads) (key-pos (d .step)) (present (d .step)) (tt, λ n. ((λ i. absurd i), λ h. last n (d .step) (h .0) (h .1 .1))) (filled (omega arith))
+
+    back : WaitingList s m [] 0 0 [] → (l : Label) × (b : List ℕ) × UndoStep s m 0 l b
+    back w = let j = waiting-none w in let i = sound-done a in
+        undo-makes-one (j .1) (undo-last (j .0) m (rw (reads-one s (j .1) (i .1)) (i .2)) (j .2) (j .3) (j .4))

@@ -1,25 +1,24 @@
 -- Demand 2 on bytes: an undo takes back a forward step and gives the same bytes, a forward step redoes an undo, and two undos work in both orders.
 use mathlib.Core.Path.{_≡_, refl, ap, sym, _∙_}
-use mathlib.Core.Logic.{_⊎_, inl, inr, ⊎-elim, _≢_, _↔_}
-use mathlib.Core.List.{List, [], _∷_}
-use Prim.Native.Nat.{ℕ, zero, suc, _<_, _≤_}
+use mathlib.Core.Logic.{_⊎_, inl, inr, _≢_, _↔_}
+use mathlib.Core.List.{List}
+use Prim.Native.Nat.{ℕ, zero, suc, _≤_}
 use native.Mathlib.Decide.{ℕ-discrete}
 use native.Mathlib.Omega.{arith}
 use Rattle.ccsk.specs.Numbers.{distinct}
 use Rattle.ccsk.specs.Term.{Term, Label, Key, Node, Has, keys, blank}
 use Rattle.ccsk.specs.Step.{Forward, Undo}
-use Rattle.ccsk.specs.Place.{places, ForwardAt}
+use Rattle.ccsk.specs.Place.{places}
 use Rattle.ccsk.proofs.Loop.{undo-of-forward, forward-of-undo}
 use Rattle.ccsk.proofs.Undo.{key-pos, present, absent, blank-kept, diamond}
 use Rattle.ccsk.proofs.Keys.{distinct-undo}
 use Rattle.ccsk.proofs.Place.{Placed, alone, joined, step-placed}
 use Rattle.sound.proofs.Order.{has-undo, has-redo}
 use Rattle.format.specs.Read.{Reads}
-use Rattle.format.specs.Encode.{encode, Fits, Bytes}
+use Rattle.format.specs.Encode.{encode, Bytes}
 use Rattle.format.proofs.Round.{decode-encode}
 use Rattle.operations.specs.Order.{pair}
 use Rattle.operations.specs.Change.{ForwardStep, UndoStep, BlankForm}
-use Rattle.operations.specs.Ask.{KeyCount}
 use Rattle.operations.specs.Runs.{KeyIn}
 use Rattle.operations.proofs.Readable.{not-refused-zero, reads-one, encode-read, read-fits}
 use Rattle.operations.proofs.Kept.{encode-bytes, fits-undo, fits-forward}
@@ -137,10 +136,12 @@ blank-makes n b e f g = rw (← f, ← g) (BlankForm.done e)
 
 -- a forward step has one key more, and the blank form stays the same bytes
 pub forward-keeps-blank : {s b c : List ℕ} {p q : Node} {m : Key} {l : Label} {n : ℕ} → Bytes s → m ≤ 65535 → ForwardStep s p q m 0 l b → BlankForm s 0 n c → BlankForm b 0 (suc n) c
-forward-keeps-blank {s} {b} {c} {n = n} h k a z = let d = forward-done a in let i = blank-done z in let e = reads-one s (d .reads) (i .1) in let u = undo-of-forward (d .step) in
+forward-keeps-blank {s} {b} {c} {n = n} h k a z = let d = forward-done a in let i = blank-done z in let e = reads-one s (d .reads) (i .1) in
+    let u = undo-of-forward (d .step) in
     blank-makes (suc n) c (forward-readable d h k .1) (distinct-undo u ∙ ap suc (ap (λ t. distinct (keys t)) e ∙ i .2)) (ap encode (blank-kept u ∙ ap blank e) ∙ i .3)
 
 -- an undo has one key less, and the blank form stays the same bytes
 pub undo-keeps-blank : {s b c : List ℕ} {m : Key} {l : Label} {n : ℕ} → Bytes s → UndoStep s m 0 l b → BlankForm s 0 (suc n) c → BlankForm b 0 n c
-undo-keeps-blank {s} {b} {c} {n = n} h a z = let d = undo-done a in let i = blank-done z in let e = reads-one s (d .reads) (i .1) in let q : suc (distinct (keys (d .later))) ≡ suc n = sym (distinct-undo (d .step)) ∙ (ap (λ t. distinct (keys t)) e ∙ i .2) in
+undo-keeps-blank {s} {b} {c} {n = n} h a z = let d = undo-done a in let i = blank-done z in let e = reads-one s (d .reads) (i .1) in
+    let q : suc (distinct (keys (d .later))) ≡ suc n = sym (distinct-undo (d .step)) ∙ (ap (λ t. distinct (keys t)) e ∙ i .2) in
     blank-makes n c (undo-readable d h .1) (omega arith) (ap encode (sym (blank-kept (d .step)) ∙ ap blank e) ∙ i .3)

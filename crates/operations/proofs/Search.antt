@@ -1,8 +1,8 @@
 -- The first pair of numbers, the left one compared first, at or after a given pair: if a property that can be decided holds of only finitely many, it is found or there is none.
-use mathlib.Core.Path.{_≡_, refl, sym}
+use mathlib.Core.Path.{_≡_, refl}
 use mathlib.Core.Logic.{_⊎_, inl, inr, ⊎-elim}
 use Prim.Native.Nat.{ℕ, zero, suc, _+_, _<_, _≤_}
-use native.Mathlib.Decide.{ℕ-discrete, decLt}
+use native.Mathlib.Decide.{ℕ-discrete}
 use native.Mathlib.Omega.{arith}
 use Rattle.operations.specs.Order.{AtOrAfter}
 
@@ -38,6 +38,10 @@ pub record FirstAt (S : ℕ → ℕ → Type 0) (p q p′ q′ : ℕ) : Type 0 w
   pub after : AtOrAfter p q p′ q′
   pub least : (p″ q″ : ℕ) → AtOrAfter p q p″ q″ → S p″ q″ → AtOrAfter p′ q′ p″ q″
 
+-- a first pair, or none
+abbrev pub Outcome : (ℕ → ℕ → Type 0) → ℕ → ℕ → Type 0
+Outcome S p q = ((p′ : ℕ) × (q′ : ℕ) × FirstAt S p q p′ q′) ⊎ ((p′ q′ : ℕ) → AtOrAfter p q p′ q′ → ¬ S p′ q′)
+
 module _ (S : ℕ → ℕ → Type 0) (s? : (p q : ℕ) → Dec (S p q)) (n : ℕ) (bound : (p q : ℕ) → S p q → (p < n) × (q < n)) where
   -- the least q of p
   abbrev pub Row : ℕ → Type 0
@@ -57,13 +61,10 @@ module _ (S : ℕ → ℕ → Type 0) (s? : (p q : ℕ) → Dec (S p q)) (n : �
       pick (inl r) = r
       pick (inr g) = absurd (g q (omega arith) s)
 
-  abbrev pub Outcome : ℕ → ℕ → Type 0
-  Outcome p q = ((p′ : ℕ) × (q′ : ℕ) × FirstAt S p q p′ q′) ⊎ ((p′ q′ : ℕ) → AtOrAfter p q p′ q′ → ¬ S p′ q′)
-
-  unfoldable pub first? : (p q : ℕ) → Outcome p q
+  unfoldable pub first? : (p q : ℕ) → Outcome S p q
   first? p q = here (least? (S p) (s? p) n (λ j s. bound p j s .1) q) (least? Row row? n (λ j r. bound j (r .0) (r .2) .0) (suc p))
     where
-      later : ((j : ℕ) → q ≤ j → ¬ S p j) → Least Row (suc p) ⊎ ((j : ℕ) → suc p ≤ j → ¬ Row j) → Outcome p q
+      later : ((j : ℕ) → q ≤ j → ¬ S p j) → Least Row (suc p) ⊎ ((j : ℕ) → suc p ≤ j → ¬ Row j) → Outcome S p q
       later f (inl r) = let v = r .2 in inl (r .0, v .0, record { holds = v .2; after = inl (r .1); least = λ p″ q″ a s. ⊎-elim (λ h. behind p″ q″ s (r .3 p″ h (row p″ q″ s)) (ℕ-discrete (r .0) p″)) (λ e. absurd (f q″ (e .1) (rw (e .0) s))) a })
         where
           behind : (p″ q″ : ℕ) → S p″ q″ → r .0 ≤ p″ → Dec (r .0 ≡ p″) → AtOrAfter (r .0) (r .2 .0) p″ q″
@@ -71,7 +72,7 @@ module _ (S : ℕ → ℕ → Type 0) (s? : (p q : ℕ) → Dec (S p q)) (n : �
           behind p″ q″ s h (no e) = inl (omega arith)
       later f (inr g) = inr (λ p′ q′ a s. ⊎-elim (λ h. g p′ h (row p′ q′ s)) (λ e. f q′ (e .1) (rw (e .0) s)) a)
 
-      here : Least (S p) q ⊎ ((j : ℕ) → q ≤ j → ¬ S p j) → Least Row (suc p) ⊎ ((j : ℕ) → suc p ≤ j → ¬ Row j) → Outcome p q
+      here : Least (S p) q ⊎ ((j : ℕ) → q ≤ j → ¬ S p j) → Least Row (suc p) ⊎ ((j : ℕ) → suc p ≤ j → ¬ Row j) → Outcome S p q
       here (inl r) z = inl (p, r .0, record { holds = r .2; after = inr (refl, r .1); least = λ p″ q″ a s. ⊎-elim inl (λ e. inr (e .0, r .3 q″ (e .1) (rw (e .0) s))) a })
       here (inr f) z = later f z
 

@@ -1,6 +1,6 @@
 -- Examples on both sides of each constant: the last names and co-names, both sides of a restriction, the limits of the record, the ends of keys, places and rows.
 use mathlib.Core.Path.{_≡_, refl}
-use mathlib.Core.List.{List, [], _∷_, _++_}
+use mathlib.Core.List.{List, [], _∷_}
 use Prim.Native.Nat.{ℕ, zero, suc}
 use native.Mathlib.Decide.{ℕ-discrete, decLt, decLe}
 use Rattle.ccsk.specs.Numbers.{in?, distinct}
@@ -28,7 +28,7 @@ use Rattle.operations.proofs.FirstOnce.{first-answer, first-some, free,
 use Rattle.operations.proofs.FirstOnce as First
 use Rattle.operations.proofs.RowOnce.{fill, undoables, listing-answer, listing-some, awaited, waiting-of, waiting-answer, waiting-some}
 use Rattle.operations.proofs.RowOnce as Row
-use Rattle.operations.proofs.Marked.{forward-computed, undo-computed, sound-computed, stop, act, or, beside, under, one}
+use Rattle.operations.proofs.Marked.{forward-computed, undo-computed, sound-computed, stop, act, beside, under, one}
 
 pub read-computed : {s : List ℕ} {r n : ℕ} → read-answer s ≡ (r, n) → ReadRecord s r n
 read-computed {s} {r} {n} e = let f : Fits (ReadRecord s) (r, n) = rw e at (read-some s) in f
@@ -77,9 +77,26 @@ pub sides-of-names :
     × ReadRecord (under 128 stop) 1 0
 unfolding decode read node kindOf finish encode read-answer forward-answer forward-of undo-answer undo-of sound-answer places? prefix? forward? do-zero do-pre do-cho do-par do-res below? unshift zero? size shift places undo? has? std? co? on? channel? verdict waits? chosen? twice? paired? split? hidden? apart? two? keys? each? ordered? acyclic? peel look find empty above? before? labels keys without decLe ℕ-discrete decLt
 sides-of-names = (
-  forward-computed refl, forward-computed refl, sound-computed refl, sound-computed refl, sound-computed refl,
-  forward-computed refl, forward-computed refl, forward-computed refl, undo-computed refl, sound-computed refl, sound-computed refl,
-  read-computed refl, read-computed refl, read-computed refl, read-computed refl, read-computed refl, read-computed refl, read-computed refl, read-computed refl)
+  forward-computed refl,
+  forward-computed refl,
+  sound-computed refl,
+  sound-computed refl,
+  sound-computed refl,
+  forward-computed refl,
+  forward-computed refl,
+  forward-computed refl,
+  undo-computed refl,
+  sound-computed refl,
+  sound-computed refl,
+  read-computed refl,
+  read-computed refl,
+  read-computed refl,
+  read-computed refl,
+  read-computed refl,
+  read-computed refl,
+  read-computed refl,
+  read-computed refl,
+)
 
 pub sides-of-keys-and-places :
     -- key 65,535 is taken, 0 is refused 3, and 3 comes before 4
@@ -110,15 +127,34 @@ pub sides-of-keys-and-places :
     × UndoListing (beside (one 1 2) (one 2 1)) (7 ∷ []) 9 0 (7 ∷ [])
 unfolding decode read node kindOf finish encode count-answer distinct in? forward-answer forward-of undo-answer undo-of sound-answer places? prefix? forward? do-zero do-pre do-cho do-par do-res below? unshift zero? size shift places undo? has? std? co? on? channel? verdict waits? chosen? twice? paired? split? hidden? apart? two? keys? each? ordered? acyclic? peel look find empty above? before? labels keys without decLe ℕ-discrete decLt pass fill undoables listing-answer awaited waiting-of waiting-answer Row.waits?
 sides-of-keys-and-places = (
-  forward-computed refl, forward-computed refl, forward-computed refl, undo-computed refl, undo-computed refl,
-  forward-computed refl, forward-computed refl, forward-computed refl, forward-computed refl, forward-computed refl, forward-computed refl,
-  sound-computed refl, sound-computed refl, count-computed refl,
-  waiting-computed refl, waiting-computed refl, waiting-computed refl, waiting-computed refl, listing-computed refl, listing-computed refl)
+  forward-computed refl,
+  forward-computed refl,
+  forward-computed refl,
+  undo-computed refl,
+  undo-computed refl,
+  forward-computed refl,
+  forward-computed refl,
+  forward-computed refl,
+  forward-computed refl,
+  forward-computed refl,
+  forward-computed refl,
+  sound-computed refl,
+  sound-computed refl,
+  count-computed refl,
+  waiting-computed refl,
+  waiting-computed refl,
+  waiting-computed refl,
+  waiting-computed refl,
+  listing-computed refl,
+  listing-computed refl,
+)
 
 -- a.0 | a'.0, with its three steps (01, the listing)
 pub sides-of-search :
     FirstStep (beside (one 1 0) (one 129 0)) 0 0 0 1 1 0 1
+    × FirstStep (beside (one 1 0) (one 129 0)) 1 0 0 1 1 0 1
     × FirstStep (beside (one 1 0) (one 129 0)) 1 1 0 1 1 3 0
+    × FirstStep (beside (one 1 0) (one 129 0)) 1 3 0 1 1 3 0
     × FirstStep (beside (one 1 0) (one 129 0)) 1 4 0 1 3 0 129
     × FirstStep (beside (one 1 0) (one 129 0)) 3 1 0 0 0 0 0
     × FirstStep (beside (one 1 0) (one 129 0)) 65535 65535 0 0 0 0 0
@@ -127,7 +163,7 @@ pub sides-of-search :
     × FreeKey (beside (one 1 1) (one 129 1)) 0 2
     × FreeKey (beside (one 1 2) (one 129 3)) 0 1
 unfolding decode read node kindOf finish encode first-answer free-answer free search first? row? least? search-up least-free-key distinct in? forward? do-zero do-pre do-cho do-par do-res below? unshift zero? size shift places has? std? co? on? channel? keys decLe ℕ-discrete decLt
-sides-of-search = (first-computed refl, first-computed refl, first-computed refl, first-computed refl, first-computed refl, first-computed refl, free-computed refl, free-computed refl, free-computed refl)
+sides-of-search = (first-computed refl, first-computed refl, first-computed refl, first-computed refl, first-computed refl, first-computed refl, first-computed refl, first-computed refl, free-computed refl, free-computed refl, free-computed refl)
 
 -- n prefixes a, and then X
 unfoldable pub prefixes : ℕ → List ℕ → List ℕ
