@@ -20,14 +20,14 @@ use Rattle.operations.proofs.Search.{first?, Outcome, same-pair}
 abbrev pub Found : Type 0
 Found = ℕ × ℕ × Node × Node × Label
 
-abbrev pub Fits : (ℕ → ℕ → Node → Node → Label → Type 0) → Found → Type 0
-Fits P x = P (x .0) (x .1) (x .2) (x .3) (x .4)
+abbrev pub FitFound : (ℕ → ℕ → Node → Node → Label → Type 0) → Found → Type 0
+FitFound P x = P (x .0) (x .1) (x .2) (x .3) (x .4)
 
-abbrev pub Equal : Found → Found → Type 0
-Equal x y = (x .0 ≡ y .0) × (x .1 ≡ y .1) × (x .2 ≡ y .2) × (x .3 ≡ y .3) × (x .4 ≡ y .4)
+abbrev pub SameFound : Found → Found → Type 0
+SameFound x y = (x .0 ≡ y .0) × (x .1 ≡ y .1) × (x .2 ≡ y .2) × (x .3 ≡ y .3) × (x .4 ≡ y .4)
 
-equal : {x y z : Found} → z ≡ x → z ≡ y → Equal x y
-equal e f = let g = sym e ∙ f in (ap (λ v. v .0) g, ap (λ v. v .1) g, ap (λ v. v .2) g, ap (λ v. v .3) g, ap (λ v. v .4) g)
+same-found : {x y z : Found} → z ≡ x → z ≡ y → SameFound x y
+same-found e f = let g = sym e ∙ f in (ap (λ v. v .0) g, ap (λ v. v .1) g, ap (λ v. v .2) g, ap (λ v. v .3) g, ap (λ v. v .4) g)
 
 -- the places of a step are nodes of the term
 under-pair : (n : ℕ) (p q : Node) → Under n (pair p q) → (p < n) × (q < n)
@@ -92,18 +92,18 @@ first-only (FirstStep.unreadable e) = rw e
 first-only {p = p} {q = q} (FirstStep.none {t = t} e f) = rw e (none-shown t p q (search t p q) f)
 first-only {p = p} {q = q} (FirstStep.found {t = t} {p′ = p′} {q′ = q′} {l = l} e f) = rw e (found-shown t p q p′ q′ l (search t p q) f)
 
-pub first-some : (s : List ℕ) (p q : Node) → Fits (FirstStep s p q) (first-answer s p q)
+pub first-some : (s : List ℕ) (p q : Node) → FitFound (FirstStep s p q) (first-answer s p q)
 unfolding first-answer
 first-some s p q = read (decode s) refl
   where
-    tests : (t : Term) → Reads s t → (o : Outcome (Step t) p q) → Fits (FirstStep s p q) (shown p q o)
+    tests : (t : Term) → Reads s t → (o : Outcome (Step t) p q) → FitFound (FirstStep s p q) (shown p q o)
     tests t e (inl r) = FirstStep.found e (record { step = from-step t (r .0) (r .1) (r .2 .holds); after = r .2 .after; least = λ p″ q″ l″ a f. r .2 .least p″ q″ a (to-step t p″ q″ l″ f) })
     tests t e (inr g) = FirstStep.none e (λ p′ q′ l a f. g p′ q′ a (to-step t p′ q′ l f))
 
-    read : (o : Opened) → decode s ≡ o → Fits (FirstStep s p q) (onRead o (λ c. (c, 0, 0, 0, 0)) (λ t. shown p q (search t p q)))
+    read : (o : Opened) → decode s ≡ o → FitFound (FirstStep s p q) (onRead o (λ c. (c, 0, 0, 0, 0)) (λ t. shown p q (search t p q)))
     read (refused c) e = FirstStep.unreadable e
     read (opened t) e = tests t e (search t p q)
 
 -- only one answer fits the promise of the first forward step
-pub first-once : {s : List ℕ} {p q p′ q′ p″ q″ : Node} {r n r′ n′ : ℕ} {l l′ : Label} → FirstStep s p q r n p′ q′ l → FirstStep s p q r′ n′ p″ q″ l′ → Equal (r, n, p′, q′, l) (r′, n′, p″, q″, l′)
-first-once d e = equal (first-only d) (first-only e)
+pub first-once : {s : List ℕ} {p q p′ q′ p″ q″ : Node} {r n r′ n′ : ℕ} {l l′ : Label} → FirstStep s p q r n p′ q′ l → FirstStep s p q r′ n′ p″ q″ l′ → SameFound (r, n, p′, q′, l) (r′, n′, p″, q″, l′)
+first-once d e = same-found (first-only d) (first-only e)

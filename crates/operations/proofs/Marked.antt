@@ -20,7 +20,7 @@ use Rattle.operations.specs.Ask.{Soundness}
 use Rattle.operations.proofs.Choose.{Fit}
 use Rattle.operations.proofs.Places.{places?, prefix?}
 use Rattle.operations.proofs.ChangeOnce.{forward-answer, forward-of, forward-some, undo-answer, undo-of, undo-step-some}
-use Rattle.operations.proofs.NumberOnce.{Fits, sound-answer, sound-some}
+use Rattle.operations.proofs.NumberOnce.{FitNumber, sound-answer, sound-some}
 
 -- an answer that is computed fits the promise
 pub forward-computed : {s b : List ℕ} {p q : Node} {m : Key} {r : ℕ} {l : Label} → forward-answer s p q m ≡ (r, l, b) → ForwardStep s p q m r l b
@@ -30,7 +30,7 @@ pub undo-computed : {s b : List ℕ} {m : Key} {r : ℕ} {l : Label} → undo-an
 undo-computed {s} {b} {m} {r} {l} e = let f : Fit (UndoStep s m) (r, l, b) = rw e at (undo-step-some s m) in f
 
 pub sound-computed : {s : List ℕ} {r v : ℕ} → sound-answer s ≡ (r, v) → Soundness s r v
-sound-computed {s} {r} {v} e = let f : Fits (Soundness s) (r, v) = rw e at (sound-some s) in f
+sound-computed {s} {r} {v} e = let f : FitNumber (Soundness s) (r, v) = rw e at (sound-some s) in f
 
 -- the bytes of 0; of the prefix a or a[k] before X; of X + Y and of X | Y; of X under a restriction on a
 abbrev pub stop : List ℕ

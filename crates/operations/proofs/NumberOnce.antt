@@ -14,14 +14,14 @@ use Rattle.operations.proofs.Lists.{least-free-key, least-free-once}
 abbrev pub Number : Type 0
 Number = ℕ × ℕ
 
-abbrev pub Fits : (ℕ → ℕ → Type 0) → Number → Type 0
-Fits P x = P (x .0) (x .1)
+abbrev pub FitNumber : (ℕ → ℕ → Type 0) → Number → Type 0
+FitNumber P x = P (x .0) (x .1)
 
-abbrev pub Equal : Number → Number → Type 0
-Equal x y = (x .0 ≡ y .0) × (x .1 ≡ y .1)
+abbrev pub SameNumber : Number → Number → Type 0
+SameNumber x y = (x .0 ≡ y .0) × (x .1 ≡ y .1)
 
-equal : {x y z : Number} → z ≡ x → z ≡ y → Equal x y
-equal e f = let g = sym e ∙ f in (ap (λ v. v .0) g, ap (λ v. v .1) g)
+same-number : {x y z : Number} → z ≡ x → z ≡ y → SameNumber x y
+same-number e f = let g = sym e ∙ f in (ap (λ v. v .0) g, ap (λ v. v .1) g)
 
 -- reading
 unfoldable pub read-answer : List ℕ → Number
@@ -32,16 +32,16 @@ unfolding read-answer
 read-only (ReadRecord.unreadable e) = rw e
 read-only (ReadRecord.done e) = rw e
 
-pub read-some : (s : List ℕ) → Fits (ReadRecord s) (read-answer s)
+pub read-some : (s : List ℕ) → FitNumber (ReadRecord s) (read-answer s)
 unfolding read-answer
 read-some s = read (decode s) refl
   where
-    read : (o : Opened) → decode s ≡ o → Fits (ReadRecord s) (onRead o (λ c. (c, 0)) (λ t. (0, size t)))
+    read : (o : Opened) → decode s ≡ o → FitNumber (ReadRecord s) (onRead o (λ c. (c, 0)) (λ t. (0, size t)))
     read (refused c) e = ReadRecord.unreadable e
     read (opened t) e = ReadRecord.done e
 
-pub read-once : {s : List ℕ} {r r′ n n′ : ℕ} → ReadRecord s r n → ReadRecord s r′ n′ → Equal (r, n) (r′, n′)
-read-once d e = equal (read-only d) (read-only e)
+pub read-once : {s : List ℕ} {r r′ n n′ : ℕ} → ReadRecord s r n → ReadRecord s r′ n′ → SameNumber (r, n) (r′, n′)
+read-once d e = same-number (read-only d) (read-only e)
 
 -- number of distinct keys
 unfoldable pub count-answer : List ℕ → Number
@@ -52,16 +52,16 @@ unfolding count-answer
 count-only (KeyCount.unreadable e) = rw e
 count-only (KeyCount.done e) = rw e
 
-pub count-some : (s : List ℕ) → Fits (KeyCount s) (count-answer s)
+pub count-some : (s : List ℕ) → FitNumber (KeyCount s) (count-answer s)
 unfolding count-answer
 count-some s = read (decode s) refl
   where
-    read : (o : Opened) → decode s ≡ o → Fits (KeyCount s) (onRead o (λ c. (c, 0)) (λ t. (0, distinct (keys t))))
+    read : (o : Opened) → decode s ≡ o → FitNumber (KeyCount s) (onRead o (λ c. (c, 0)) (λ t. (0, distinct (keys t))))
     read (refused c) e = KeyCount.unreadable e
     read (opened t) e = KeyCount.done e
 
-pub count-once : {s : List ℕ} {r r′ n n′ : ℕ} → KeyCount s r n → KeyCount s r′ n′ → Equal (r, n) (r′, n′)
-count-once d e = equal (count-only d) (count-only e)
+pub count-once : {s : List ℕ} {r r′ n n′ : ℕ} → KeyCount s r n → KeyCount s r′ n′ → SameNumber (r, n) (r′, n′)
+count-once d e = same-number (count-only d) (count-only e)
 
 -- least free key
 unfoldable pub free-answer : List ℕ → Number
@@ -72,16 +72,16 @@ unfolding free-answer
 free-only (FreeKey.unreadable e) = rw e
 free-only (FreeKey.done {t = t} {k = k} e f) = rw (e, least-free-once (least-free-key (keys t) .1) f)
 
-pub free-some : (s : List ℕ) → Fits (FreeKey s) (free-answer s)
+pub free-some : (s : List ℕ) → FitNumber (FreeKey s) (free-answer s)
 unfolding free-answer
 free-some s = read (decode s) refl
   where
-    read : (o : Opened) → decode s ≡ o → Fits (FreeKey s) (onRead o (λ c. (c, 0)) (λ t. (0, least-free-key (keys t) .0)))
+    read : (o : Opened) → decode s ≡ o → FitNumber (FreeKey s) (onRead o (λ c. (c, 0)) (λ t. (0, least-free-key (keys t) .0)))
     read (refused c) e = FreeKey.unreadable e
     read (opened t) e = FreeKey.done e (least-free-key (keys t) .1)
 
-pub free-once : {s : List ℕ} {r r′ : ℕ} {k k′ : Key} → FreeKey s r k → FreeKey s r′ k′ → Equal (r, k) (r′, k′)
-free-once d e = equal (free-only d) (free-only e)
+pub free-once : {s : List ℕ} {r r′ : ℕ} {k k′ : Key} → FreeKey s r k → FreeKey s r′ k′ → SameNumber (r, k) (r′, k′)
+free-once d e = same-number (free-only d) (free-only e)
 
 -- soundness
 unfoldable pub sound-answer : List ℕ → Number
@@ -92,13 +92,13 @@ unfolding sound-answer
 sound-only (Soundness.unreadable e) = rw e
 sound-only (Soundness.done e v) = rw (e, verdict-once v)
 
-pub sound-some : (s : List ℕ) → Fits (Soundness s) (sound-answer s)
+pub sound-some : (s : List ℕ) → FitNumber (Soundness s) (sound-answer s)
 unfolding sound-answer
 sound-some s = read (decode s) refl
   where
-    read : (o : Opened) → decode s ≡ o → Fits (Soundness s) (onRead o (λ c. (c, 0)) (λ t. (0, verdict t)))
+    read : (o : Opened) → decode s ≡ o → FitNumber (Soundness s) (onRead o (λ c. (c, 0)) (λ t. (0, verdict t)))
     read (refused c) e = Soundness.unreadable e
     read (opened t) e = Soundness.done e (verdict-right t)
 
-pub sound-once : {s : List ℕ} {r r′ v v′ : ℕ} → Soundness s r v → Soundness s r′ v′ → Equal (r, v) (r′, v′)
-sound-once d e = equal (sound-only d) (sound-only e)
+pub sound-once : {s : List ℕ} {r r′ v v′ : ℕ} → Soundness s r v → Soundness s r′ v′ → SameNumber (r, v) (r′, v′)
+sound-once d e = same-number (sound-only d) (sound-only e)

@@ -22,25 +22,24 @@ use Rattle.operations.proofs.Choose.{Fit}
 use Rattle.operations.proofs.Places.{places?, prefix?}
 use Rattle.operations.proofs.Lists.{pass, least-free-key}
 use Rattle.operations.proofs.ChangeOnce.{forward-answer, forward-of, undo-answer, undo-of}
-use Rattle.operations.proofs.NumberOnce.{Fits, sound-answer, read-answer, read-some, count-answer, count-some, free-answer, free-some}
+use Rattle.operations.proofs.NumberOnce.{FitNumber, sound-answer, read-answer, read-some, count-answer, count-some, free-answer, free-some}
 use Rattle.operations.proofs.Search.{search-up, least?, row?, first?}
-use Rattle.operations.proofs.FirstOnce.{first-answer, first-some, free, search}
-use Rattle.operations.proofs.FirstOnce as First
+use Rattle.operations.proofs.FirstOnce.{FitFound, first-answer, first-some, free, search}
 use Rattle.operations.proofs.RowOnce.{fill, undoables, listing-answer, listing-some, awaited, waiting-of, waiting-answer, waiting-some}
 use Rattle.operations.proofs.RowOnce as Row
 use Rattle.operations.proofs.Marked.{forward-computed, undo-computed, sound-computed, stop, act, beside, under, one}
 
 pub read-computed : {s : List ℕ} {r n : ℕ} → read-answer s ≡ (r, n) → ReadRecord s r n
-read-computed {s} {r} {n} e = let f : Fits (ReadRecord s) (r, n) = rw e at (read-some s) in f
+read-computed {s} {r} {n} e = let f : FitNumber (ReadRecord s) (r, n) = rw e at (read-some s) in f
 
 pub count-computed : {s : List ℕ} {r n : ℕ} → count-answer s ≡ (r, n) → KeyCount s r n
-count-computed {s} {r} {n} e = let f : Fits (KeyCount s) (r, n) = rw e at (count-some s) in f
+count-computed {s} {r} {n} e = let f : FitNumber (KeyCount s) (r, n) = rw e at (count-some s) in f
 
 pub free-computed : {s : List ℕ} {r : ℕ} {k : Key} → free-answer s ≡ (r, k) → FreeKey s r k
-free-computed {s} {r} {k} e = let f : Fits (FreeKey s) (r, k) = rw e at (free-some s) in f
+free-computed {s} {r} {k} e = let f : FitNumber (FreeKey s) (r, k) = rw e at (free-some s) in f
 
 pub first-computed : {s : List ℕ} {p q p′ q′ : Node} {r n : ℕ} {l : Label} → first-answer s p q ≡ (r, n, p′, q′, l) → FirstStep s p q r n p′ q′ l
-first-computed {s} {p} {q} {p′} {q′} {r} {n} {l} e = let f : First.Fits (FirstStep s p q) (r, n, p′, q′, l) = rw e at (first-some s p q) in f
+first-computed {s} {p} {q} {p′} {q′} {r} {n} {l} e = let f : FitFound (FirstStep s p q) (r, n, p′, q′, l) = rw e at (first-some s p q) in f
 
 pub listing-computed : {s row row′ : List ℕ} {r n : ℕ} → listing-answer s row ≡ (r, n, row′) → UndoListing s row r n row′
 listing-computed {s} {row} {row′} {r} {n} e = let f : Fit (UndoListing s row) (r, n, row′) = rw e at (listing-some s row) in f
