@@ -1,2 +1,3 @@
 -- Why the one pass decides the rules of a step, each file leaning only on those above it.
 pub mod Holds
+pub mod Undone
