@@ -12,7 +12,7 @@ use Rattle.ccsk.proofs.Undo.{present, std-stuck}
 use Rattle.ccsk.proofs.Decide.{co?, on?}
 use Rattle.ccsk.proofs.UndoDec.{inv-pre, inv-cho, inv-par, inv-res, label}
 use Rattle.moves.specs.Choose.{undo-choice}
-use Rattle.moves.specs.Move.{Move, still, step, stuck, not, holds, own, pass, overPrefix, overChoice, overParallel, overRestriction, joined, hiddenIf, move}
+use Rattle.moves.specs.Move.{Move, still, step, stuck, not, holds, own, pass, overPrefix, overChoice, overParallel, overRestriction, joinedIf, hiddenIf, move}
 use Rattle.moves.proofs.Holds.{Says, equal-says, Holding, holding}
 
 -- what a move tells of the undo of m
@@ -51,7 +51,7 @@ module _ (m : Key) (h : 0 < m) where
   at-cho t u b c stuck y s s′ r r′ = (inl (r .0), λ z. ⊎-elim (λ i. r .1 (i .1)) (λ i. std-has t (i .0) h (r .0)) (inv-cho (z .2)))
 
   -- m stands on both sides: only joining is left
-  at-both : (t u v w : Term) (l k : Label) (d : Dec (Co l k)) → Undo t m l v → Undo u m k w → UndoTells m (par t u) (joined d)
+  at-both : (t u v w : Term) (l k : Label) (d : Dec (Co l k)) → Undo t m l v → Undo u m k w → UndoTells m (par t u) (joinedIf d)
   at-both t u v w l k (yes c) d e = (par v w, synch c d e)
   at-both t u v w l k (no c) d e =
       (inl (present d), λ z. ⊎-elim (λ i. i .0 (present e)) (⊎-elim (λ i. i .0 (present d)) (λ i. c (rw (label (l, v, d) (i .0), label (k, w, e) (i .1)) (i .2)))) (inv-par (z .2)))
