@@ -4,3 +4,4 @@ pub mod Undone
 pub mod Split
 pub mod Written
 pub mod Stepped
+pub mod Chosen

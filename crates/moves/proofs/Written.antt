@@ -114,7 +114,7 @@ spots-inside c b i n (par t u) h = let g : i + suc (length (encode t) + length (
     inside-both b (spots c (i + 1) (n + 1) t) (spots c (i + 1 + length (encode t)) (n + 1 + size t) u) (spots-inside c b (i + 1) (n + 1) t (omega arith)) (spots-inside c b (i + 1 + length (encode t)) (n + 1 + size t) u (omega arith))
 spots-inside c b i n (res a t) h = spots-inside c b (i + 2) (n + 1) t (omega arith)
 
-shift-length : (k : ℕ) (x : List ℕ) → length (shift k x) ≡ length x
+pub shift-length : (k : ℕ) (x : List ℕ) → length (shift k x) ≡ length x
 unfolding shift
 shift-length k [] = refl
 shift-length k (p ∷ x) = ap suc (shift-length k x)
