@@ -5,3 +5,4 @@ pub mod Split
 pub mod Written
 pub mod Stepped
 pub mod Chosen
+pub mod Answers
