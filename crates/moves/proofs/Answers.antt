@@ -9,14 +9,13 @@ use native.Mathlib.Omega.{arith}
 use lib.Dec.{eqb}
 use lib.ListN.{length, getD, set}
 use Rattle.ccsk.specs.Term.{Term, Label, Key, Node, Fsh}
-use Rattle.ccsk.specs.Step.{Undoable}
 use Rattle.ccsk.proofs.Clear.{undo-clears}
 use Rattle.format.specs.Read.{Reads}
 use Rattle.format.specs.Encode.{encode}
 use Rattle.operations.specs.Order.{pair, ArePlaces}
 use Rattle.operations.specs.Change.{ForwardStep, UndoStep, no-places, key-stands, key-absent, ForwardStep.not-derived, UndoStep.not-derived, ForwardStep.done, UndoStep.done}
-use Rattle.moves.specs.Choose.{forward-choice, undo-choice, chosen, spots}
-use Rattle.moves.specs.Move.{Move, still, step, stuck, stands, move}
+use Rattle.moves.specs.Choose.{forward-choice, undo-choice, spots}
+use Rattle.moves.specs.Move.{still, step, stuck, stands, move}
 use Rattle.moves.proofs.Holds.{stands-has, stands-fresh}
 use Rattle.moves.proofs.Undone.{UndoTells, undo-tells}
 use Rattle.moves.proofs.Written.{written, put, puts, puts-written, Inside, spots-inside, spots-length}

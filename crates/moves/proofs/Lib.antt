@@ -6,3 +6,4 @@ pub mod Written
 pub mod Stepped
 pub mod Chosen
 pub mod Answers
+pub mod Examples
