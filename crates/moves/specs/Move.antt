@@ -67,15 +67,15 @@ overChoice left right (step l) stuck = stuck
 overChoice left right still stuck = stuck
 overChoice left right stuck x = stuck
 
-abbrev pub joined : {A : Type 0} → Dec A → Move
-joined (yes c) = step 0
-joined (no c) = stuck
+abbrev pub joinedIf : {A : Type 0} → Dec A → Move
+joinedIf (yes c) = step 0
+joinedIf (no c) = stuck
 
 -- a parallel passes the step of one side, or joins two with complementary labels
 abbrev pub overParallel : Move → Move → Move
 overParallel still x = x
 overParallel (step l) still = step l
-overParallel (step l) (step k) = joined (co? l k)
+overParallel (step l) (step k) = joinedIf (co? l k)
 overParallel (step l) stuck = stuck
 overParallel stuck x = stuck
 
