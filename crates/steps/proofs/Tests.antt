@@ -10,7 +10,7 @@ use lib.Dec.{eqb}
 use Rattle.ccsk.specs.Term.{Co, On}
 use Rattle.ccsk.proofs.Decide.{co?, on?}
 use Rattle.moves.specs.Choose.{forward-choice}
-use Rattle.moves.specs.Move.{step, stuck, own, overPrefix, joined, hiddenIf} 
+use Rattle.moves.specs.Move.{step, stuck, own, overPrefix, joinedIf, hiddenIf} 
 use Rattle.moves.specs.Move as m
 use Rattle.steps.specs.Seen.{Tells}
 
@@ -86,11 +86,11 @@ on-coname a l f h g = pick (ℕ-discrete l (a + 128))
         out (c, inr e) = n e
 
 -- what a test that was made decides
-pub joined-yes : {A : Type 0} (d : Dec A) (b : Bool) → Tells b A → b ≡ true → step 0 ≡ joined d
+pub joined-yes : {A : Type 0} (d : Dec A) (b : Bool) → Tells b A → b ≡ true → step 0 ≡ joinedIf d
 joined-yes (yes a) b t e = refl
 joined-yes (no f) b t e = absurd (f (rw e at t))
 
-pub joined-no : {A : Type 0} (d : Dec A) (b : Bool) → Tells b A → b ≡ false → stuck ≡ joined d
+pub joined-no : {A : Type 0} (d : Dec A) (b : Bool) → Tells b A → b ≡ false → stuck ≡ joinedIf d
 joined-no (no f) b t e = refl
 joined-no {A} (yes a) b t e = absurd (out (rw e at t))
   where
