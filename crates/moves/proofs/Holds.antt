@@ -22,37 +22,28 @@ equal-says a b = pick (eqb a b) (eqb-true a b) (eqb-false a b)
     pick true f g = f refl
     pick false f g = g refl
 
+-- a test for the contrary answers b
+abbrev pub Denies : Bool → Type 0 → Type 0
+Denies true A = ¬ A
+Denies false A = A
+
+both-deny : (A B : Type 0) (b c : Bool) → Denies b A → Denies c B → Denies (or b c) (A × B)
+both-deny A B true c h i = λ s. h (s .0)
+both-deny A B false true h i = λ s. i (s .1)
+both-deny A B false false h i = (h, i)
+
 -- the test `holds` answers b of the term t
 abbrev pub Holding : Bool → Term → Type 0
-Holding true t = ¬ Std t
-Holding false t = Std t
+Holding b t = Denies b (Std t)
 
 pub holding : (t : Term) → Holding (holds t) t
 unfolding holds
 holding nil = tt
-holding (pre a zero t) = one (holds t) (holding t)
-  where
-    one : (b : Bool) → Holding b t → Holding b (pre a 0 t)
-    one true h = h
-    one false h = h
+holding (pre a zero t) = holding t
 holding (pre a (suc k) t) = rw (ne-eqb (suc k) 0 (λ e. omega arith)) (λ s. s)
-holding (cho t u) = two (holds t) (holds u) (holding t) (holding u)
-  where
-    two : (b c : Bool) → Holding b t → Holding c u → Holding (or b c) (cho t u)
-    two true c h i = λ s. h (s .0)
-    two false true h i = λ s. i (s .1)
-    two false false h i = (h, i)
-holding (par t u) = two (holds t) (holds u) (holding t) (holding u)
-  where
-    two : (b c : Bool) → Holding b t → Holding c u → Holding (or b c) (par t u)
-    two true c h i = λ s. h (s .0)
-    two false true h i = λ s. i (s .1)
-    two false false h i = (h, i)
-holding (res a t) = one (holds t) (holding t)
-  where
-    one : (b : Bool) → Holding b t → Holding b (res a t)
-    one true h = h
-    one false h = h
+holding (cho t u) = both-deny (Std t) (Std u) (holds t) (holds u) (holding t) (holding u)
+holding (par t u) = both-deny (Std t) (Std u) (holds t) (holds u) (holding t) (holding u)
+holding (res a t) = holding t
 
 or-says : (A B : Type 0) (b c : Bool) → Says b A → Says c B → Says (or b c) (A ⊎ B)
 or-says A B true c h i = inl h

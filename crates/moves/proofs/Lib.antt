@@ -5,3 +5,5 @@ pub mod Split
 pub mod Written
 pub mod Stepped
 pub mod Chosen
+pub mod Answers
+pub mod Examples

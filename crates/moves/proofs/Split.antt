@@ -3,13 +3,13 @@ use mathlib.Core.Path.{_≡_, refl, sym}
 use mathlib.Core.Logic.{_≢_}
 use mathlib.Core.List.{List, [], _∷_, _++_, append-nil}
 use mathlib.Core.Bool.{Bool, true, false}
-use Prim.Native.Nat.{ℕ, zero, suc, _+_, _<_, _≤_}
+use Prim.Native.Nat.{ℕ, suc, _+_, _≤_}
 use native.Mathlib.Omega.{arith}
 use Rattle.ccsk.specs.Term.{Term, Key, Node, nil, pre, cho, par, res, size, tick}
 use Rattle.ccsk.specs.Place.{shift}
 use Rattle.ccsk.proofs.Place.{Under}
 use Rattle.ccsk.proofs.Basic.{nil-left, nil-right}
-use Rattle.ccsk.proofs.ForwardDec.{zero-one, shift-once, down-le}
+use Rattle.ccsk.proofs.ForwardDec.{shift-once, down-le}
 use Rattle.moves.specs.Choose.{chosen}
 
 pub shift-nil : (k : ℕ) (x : List ℕ) → shift k x ≡ [] → x ≡ []

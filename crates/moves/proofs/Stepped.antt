@@ -3,7 +3,7 @@ use mathlib.Core.Path.{_≡_, refl, ap, sym, _∙_}
 use mathlib.Core.Logic.{_⊎_, inl, inr, ⊎-elim, _≢_}
 use mathlib.Core.List.{List, [], _∷_, _++_, append-nil}
 use mathlib.Core.Bool.{Bool, true, false}
-use Prim.Native.Nat.{ℕ, zero, suc, _+_, _<_}
+use Prim.Native.Nat.{ℕ, _+_, _<_}
 use native.Mathlib.Omega.{arith}
 use lib.Dec.{eqb}
 use Rattle.ccsk.specs.Term.{Term, Name, Label, Key, Node, nil, pre, cho, par, res, Std, Fsh, Co, On, size, tick}
@@ -12,7 +12,7 @@ use Rattle.ccsk.specs.Place.{shift, places, ForwardAt}
 use Rattle.ccsk.proofs.Basic.{never}
 use Rattle.ccsk.proofs.Place.{Under, Placed, alone, joined, places-under, step-placed}
 use Rattle.ccsk.proofs.Decide.{co?, on?}
-use Rattle.ccsk.proofs.ForwardDec.{zero-one, shift-once, down-le, Below, With, Joint, single, inv-nil, inv-pre, inv-cho, inv-par, inv-res, label}
+use Rattle.ccsk.proofs.ForwardDec.{zero-one, shift-once, down-le, Below, With, Joint, single, inv-pre, inv-cho, inv-par, inv-res, label}
 use Rattle.moves.specs.Choose.{chosen}
 use Rattle.moves.specs.Move.{Move, still, step, stuck, not, holds, own, pass, overPrefix, overChoice, overParallel, overRestriction, joinedIf, hiddenIf, move}
 use Rattle.moves.proofs.Holds.{Says, equal-says, Holding, holding}
@@ -48,6 +48,7 @@ un-cho m t u x y h w = ⊎-elim (λ i. inl (left (i .0) (i .1))) (λ i. inr (rig
   where
     left : Std u → Below 1 (shift 1 x ++ shift (1 + size t) y) (ForwardAt t m) → Std u × ForwardAt t m x × (y ≡ [])
     left s b = let r = split-left (size t) x y (b .0) h (at-under (b .2)) (b .1) in (s, rw (r .0) at (b .2), r .1)
+
     right : Std t → Below (1 + size t) (shift 1 x ++ shift (1 + size t) y) (ForwardAt u m) → Std t × ForwardAt u m y × (x ≡ [])
     right s b = let r = split-right (size t) x y (b .0) h (b .1) in (s, rw (r .0) at (b .2), r .1)
 
@@ -58,8 +59,10 @@ un-par m t u x y h w = ⊎-elim (λ i. inl (left (i .1))) (⊎-elim (λ i. inr (
   where
     left : Below 1 (shift 1 x ++ shift (1 + size t) y) (ForwardAt t m) → ForwardAt t m x × (y ≡ [])
     left b = let r = split-left (size t) x y (b .0) h (at-under (b .2)) (b .1) in (rw (r .0) at (b .2), r .1)
+
     right : Below (1 + size t) (shift 1 x ++ shift (1 + size t) y) (ForwardAt u m) → ForwardAt u m y × (x ≡ [])
     right b = let r = split-right (size t) x y (b .0) h (b .1) in (rw (r .0) at (b .2), r .1)
+
     both : Joint t u m (shift 1 x ++ shift (1 + size t) y) → (v : ForwardAt t m x) × (w : ForwardAt u m y) × Co (v .0) (w .0)
     both j = let b = j .3 in let c = b .2 .1 in
         let r = split (size t) (b .0) (c .0) x y (at-under (b .2 .0)) h (single 1 (j .0) (j .1) (b .0) (c .0) (1 + size t) (b .1) (c .1) ∙ j .2) in
@@ -105,8 +108,10 @@ module _ (m : Key) (h : 0 < m) where
     at-both : (l k : Label) (c : Dec (Co l k)) → Tells m t x v (step l) → Tells m u x′ v′ (step k) → Tells m (par t u) (shift 1 x ++ shift (1 + size t) x′) (par v v′) (joinedIf c)
     unfolding places
     at-both l k (yes c) r r′ = (synch c (r .0) (r′ .0), rw (r .1, r′ .1))
-    at-both l k (no c) r r′ = (some-left 1 (1 + size t) x x′ (some-places (r .0) (r .1)),
-        λ w. ⊎-elim (λ i. some-places (r′ .0) (r′ .1) (i .1)) (⊎-elim (λ i. some-places (r .0) (r .1) (i .1)) (λ i. c (rw (label (l, v, r .0, r .1) (i .0), label (k, v′, r′ .0, r′ .1) (i .1)) (i .2)))) (un-par m t u x x′ g w))
+    at-both l k (no c) r r′ = (
+      some-left 1 (1 + size t) x x′ (some-places (r .0) (r .1)),
+      λ w. ⊎-elim (λ i. some-places (r′ .0) (r′ .1) (i .1)) (⊎-elim (λ i. some-places (r .0) (r .1) (i .1)) (λ i. c (rw (label (l, v, r .0, r .1) (i .0), label (k, v′, r′ .0, r′ .1) (i .1)) (i .2)))) (un-par m t u x x′ g w),
+    )
 
     at-par : (y z : Move) → Fsh m t → Fsh m u → Tells m t x v y → Tells m u x′ v′ z → Tells m (par t u) (shift 1 x ++ shift (1 + size t) x′) (par v v′) (overParallel y z)
     unfolding places shift

@@ -1,11 +1,11 @@
 -- Writing a key's two bytes at the spots of the chosen prefixes gives the record of the term with that key at them.
-use mathlib.Core.Path.{_≡_, refl, ap, sym, _∙_}
+use mathlib.Core.Path.{_≡_, refl, ap, _∙_}
 use mathlib.Core.List.{List, [], _∷_, _++_, append-assoc, append-nil}
 use mathlib.Core.Bool.{Bool, true, false}
-use Prim.Native.Nat.{ℕ, zero, suc, _+_, _<_, _≤_, _/_, _%_}
-use native.Mathlib.Nat.{add-zero, suc-add}
+use Prim.Native.Nat.{ℕ, suc, _+_, _<_, _≤_}
+use native.Mathlib.Nat.{suc-add}
 use native.Mathlib.Omega.{arith}
-use lib.ListN.{length, set, getD, length-append}
+use lib.ListN.{length, set, length-append}
 use Rattle.ccsk.specs.Term.{Term, Key, Node, nil, pre, cho, par, res, size, tick}
 use Rattle.ccsk.specs.Place.{shift}
 use Rattle.format.specs.Encode.{encode, high, low}
@@ -62,32 +62,38 @@ written-length c m n (res a t) = omega (arith, written-length c m (n + 1) t)
 ahead : (m : Key) (l xs ys s s′ : List ℕ) → puts m ((xs ++ ys) ++ s) l ≡ (xs ++ ys) ++ s′ → puts m (xs ++ (ys ++ s)) l ≡ xs ++ (ys ++ s′)
 ahead m l xs ys s s′ e = rw (append-assoc xs ys s, append-assoc xs ys s′) at e
 
--- two sides after a byte of kind
-two-sides : (m : Key) (b : ℕ) (xs ys s s′ r r′ l l′ : List ℕ) → puts m (xs ++ (b ∷ (s ++ (r ++ ys)))) l ≡ xs ++ (b ∷ (s′ ++ (r ++ ys)))
-    → puts m (xs ++ (b ∷ (s′ ++ (r ++ ys)))) l′ ≡ xs ++ (b ∷ (s′ ++ (r′ ++ ys))) → puts m (xs ++ (b ∷ ((s ++ r) ++ ys))) (l ++ l′) ≡ xs ++ (b ∷ ((s′ ++ r′) ++ ys))
-two-sides m b xs ys s s′ r r′ l l′ e f = rw (append-assoc s r ys, append-assoc s′ r′ ys, puts-append m (xs ++ (b ∷ (s ++ (r ++ ys)))) l l′, e) f
+-- the law for a term whose first byte follows the bytes xs
+abbrev Puts : (Node → Key → Bool) → Key → Term → ℕ → Node → List ℕ → List ℕ → Type 0
+Puts c m t i n xs ys = i ≡ length xs → puts m (xs ++ (encode t ++ ys)) (spots c i n t) ≡ xs ++ (encode (written c m n t) ++ ys)
 
-puts-spots : (c : Node → Key → Bool) (m : Key) (t : Term) (i n : ℕ) (xs ys : List ℕ) → i ≡ length xs → puts m (xs ++ (encode t ++ ys)) (spots c i n t) ≡ xs ++ (encode (written c m n t) ++ ys)
+-- for two sides after a byte of kind
+two-sides : (c : Node → Key → Bool) (m : Key) (t u : Term) (i n b : ℕ) (xs ys : List ℕ) → i ≡ length xs
+    → ((xs ys : List ℕ) → Puts c m t (i + 1) (n + 1) xs ys) → ((xs ys : List ℕ) → Puts c m u (i + 1 + length (encode t)) (n + 1 + size t) xs ys)
+    → puts m (xs ++ (b ∷ ((encode t ++ encode u) ++ ys))) (spots c (i + 1) (n + 1) t ++ spots c (i + 1 + length (encode t)) (n + 1 + size t) u)
+    ≡ xs ++ (b ∷ ((encode (written c m (n + 1) t) ++ encode (written c m (n + 1 + size t) u)) ++ ys))
+two-sides c m t u i n b xs ys e f g =
+    let t′ = encode (written c m (n + 1) t) in let u′ = encode (written c m (n + 1 + size t) u) in
+    let l = spots c (i + 1) (n + 1) t in let l′ = spots c (i + 1 + length (encode t)) (n + 1 + size t) u in
+    let first = ahead m l xs (b ∷ []) (encode t ++ (encode u ++ ys)) (t′ ++ (encode u ++ ys)) (f (xs ++ (b ∷ [])) (encode u ++ ys) (simp length-append (omega arith))) in
+    let second = ahead m l′ xs (b ∷ t′) (encode u ++ ys) (u′ ++ ys) (g (xs ++ (b ∷ t′)) ys (simp length-append (omega (arith, written-length c m (n + 1) t)))) in
+    rw (append-assoc (encode t) (encode u) ys, append-assoc t′ u′ ys, puts-append m (xs ++ (b ∷ (encode t ++ (encode u ++ ys)))) l l′, first) second
+
+-- for a prefix: the key that is there, or the one that is written
+at-prefix : (c : Node → Key → Bool) (m : Key) (t : Term) (i n a k : ℕ) (b : Bool) (xs ys : List ℕ) → i ≡ length xs → ((xs ys : List ℕ) → Puts c m t (i + 4) (n + 1) xs ys)
+    → puts m (xs ++ (1 ∷ (a ∷ (high k ∷ (low k ∷ (encode t ++ ys)))))) (tick b i (spots c (i + 4) (n + 1) t))
+    ≡ xs ++ (1 ∷ (a ∷ (high (keyed b m k) ∷ (low (keyed b m k) ∷ (encode (written c m (n + 1) t) ++ ys)))))
+unfolding puts
+at-prefix c m t i n a k true xs ys e f = ap (λ (s : List ℕ). puts m s (spots c (i + 4) (n + 1) t)) (put-after m xs (encode t ++ ys) 1 a (high k) (low k) i e)
+    ∙ ahead m (spots c (i + 4) (n + 1) t) xs (1 ∷ (a ∷ (high m ∷ (low m ∷ [])))) (encode t ++ ys) (encode (written c m (n + 1) t) ++ ys) (f (xs ++ (1 ∷ (a ∷ (high m ∷ (low m ∷ []))))) ys (simp length-append (omega arith)))
+at-prefix c m t i n a k false xs ys e f =
+    ahead m (spots c (i + 4) (n + 1) t) xs (1 ∷ (a ∷ (high k ∷ (low k ∷ [])))) (encode t ++ ys) (encode (written c m (n + 1) t) ++ ys) (f (xs ++ (1 ∷ (a ∷ (high k ∷ (low k ∷ []))))) ys (simp length-append (omega arith)))
+
+puts-spots : (c : Node → Key → Bool) (m : Key) (t : Term) (i n : ℕ) (xs ys : List ℕ) → Puts c m t i n xs ys
 unfolding puts spots encode written
 puts-spots c m nil i n xs ys e = refl
-puts-spots c m (pre a k t) i n xs ys e = pick (c n k)
-    (λ x. ahead m (spots c (i + 4) (n + 1) t) xs (1 ∷ (a ∷ (high x ∷ (low x ∷ [])))) (encode t ++ ys) (encode (written c m (n + 1) t) ++ ys)
-    (puts-spots c m t (i + 4) (n + 1) (xs ++ (1 ∷ (a ∷ (high x ∷ (low x ∷ []))))) ys (simp length-append (omega arith))))
-  where
-    pick : (b : Bool) → ((x : Key) → puts m (xs ++ (1 ∷ (a ∷ (high x ∷ (low x ∷ (encode t ++ ys)))))) (spots c (i + 4) (n + 1) t) ≡ xs ++ (1 ∷ (a ∷ (high x ∷ (low x ∷ (encode (written c m (n + 1) t) ++ ys))))))
-        → puts m (xs ++ (1 ∷ (a ∷ (high k ∷ (low k ∷ (encode t ++ ys)))))) (tick b i (spots c (i + 4) (n + 1) t)) ≡ xs ++ (1 ∷ (a ∷ (high (keyed b m k) ∷ (low (keyed b m k) ∷ (encode (written c m (n + 1) t) ++ ys)))))
-    pick true f = ap (λ (s : List ℕ). puts m s (spots c (i + 4) (n + 1) t)) (put-after m xs (encode t ++ ys) 1 a (high k) (low k) i e) ∙ f m
-    pick false f = f k
-puts-spots c m (cho t u) i n xs ys e =
-    two-sides m 2 xs ys (encode t) (encode (written c m (n + 1) t)) (encode u) (encode (written c m (n + 1 + size t) u)) (spots c (i + 1) (n + 1) t) (spots c (i + 1 + length (encode t)) (n + 1 + size t) u)
-    (ahead m (spots c (i + 1) (n + 1) t) xs (2 ∷ []) (encode t ++ (encode u ++ ys)) (encode (written c m (n + 1) t) ++ (encode u ++ ys)) (puts-spots c m t (i + 1) (n + 1) (xs ++ (2 ∷ [])) (encode u ++ ys) (simp length-append (omega arith))))
-    (ahead m (spots c (i + 1 + length (encode t)) (n + 1 + size t) u) xs (2 ∷ encode (written c m (n + 1) t)) (encode u ++ ys) (encode (written c m (n + 1 + size t) u) ++ ys)
-    (puts-spots c m u (i + 1 + length (encode t)) (n + 1 + size t) (xs ++ (2 ∷ encode (written c m (n + 1) t))) ys (simp length-append (omega (arith, written-length c m (n + 1) t)))))
-puts-spots c m (par t u) i n xs ys e =
-    two-sides m 3 xs ys (encode t) (encode (written c m (n + 1) t)) (encode u) (encode (written c m (n + 1 + size t) u)) (spots c (i + 1) (n + 1) t) (spots c (i + 1 + length (encode t)) (n + 1 + size t) u)
-    (ahead m (spots c (i + 1) (n + 1) t) xs (3 ∷ []) (encode t ++ (encode u ++ ys)) (encode (written c m (n + 1) t) ++ (encode u ++ ys)) (puts-spots c m t (i + 1) (n + 1) (xs ++ (3 ∷ [])) (encode u ++ ys) (simp length-append (omega arith))))
-    (ahead m (spots c (i + 1 + length (encode t)) (n + 1 + size t) u) xs (3 ∷ encode (written c m (n + 1) t)) (encode u ++ ys) (encode (written c m (n + 1 + size t) u) ++ ys)
-    (puts-spots c m u (i + 1 + length (encode t)) (n + 1 + size t) (xs ++ (3 ∷ encode (written c m (n + 1) t))) ys (simp length-append (omega (arith, written-length c m (n + 1) t)))))
+puts-spots c m (pre a k t) i n xs ys e = at-prefix c m t i n a k (c n k) xs ys e (puts-spots c m t (i + 4) (n + 1))
+puts-spots c m (cho t u) i n xs ys e = two-sides c m t u i n 2 xs ys e (puts-spots c m t (i + 1) (n + 1)) (puts-spots c m u (i + 1 + length (encode t)) (n + 1 + size t))
+puts-spots c m (par t u) i n xs ys e = two-sides c m t u i n 3 xs ys e (puts-spots c m t (i + 1) (n + 1)) (puts-spots c m u (i + 1 + length (encode t)) (n + 1 + size t))
 puts-spots c m (res a t) i n xs ys e = ahead m (spots c (i + 2) (n + 1) t) xs (4 ∷ (a ∷ [])) (encode t ++ ys) (encode (written c m (n + 1) t) ++ ys)
     (puts-spots c m t (i + 2) (n + 1) (xs ++ (4 ∷ (a ∷ []))) ys (simp length-append (omega arith)))
 

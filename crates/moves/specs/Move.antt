@@ -1,6 +1,6 @@
 -- Whether the chosen prefixes of a term step together, decided from the leaves to the root in one pass.
 use mathlib.Core.Bool.{Bool, true, false}
-use Prim.Native.Nat.{ℕ, zero, suc, _+_}
+use Prim.Native.Nat.{_+_}
 use lib.Dec.{eqb}
 use Rattle.ccsk.specs.Term.{Term, Name, Label, Key, Node, nil, pre, cho, par, res, size}
 use Rattle.ccsk.proofs.Decide.{co?, on?}
