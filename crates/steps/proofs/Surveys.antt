@@ -9,11 +9,14 @@ use borrow.Author.Tests.{eq-eqb, ne-eqb}
 use lib.Dec.{eqb}
 use lib.ListN.{length, getD, length-append}
 use Rattle.ccsk.specs.Term.{Term, Key, Node, nil, pre, cho, par, res, size, tick}
-use Rattle.format.specs.Limits.{node-limit}
-use Rattle.format.specs.Read.{keyOf}
+use Rattle.format.specs.Limits.{node-limit, depth-limit}
+use Rattle.format.specs.Read.{Reads, Refuses}
+use Rattle.reader.proofs.Whole.{refuses-stopped, refuses-trailing, reads-whole}
 use Rattle.format.specs.Encode.{encode}
 use Rattle.moves.specs.Choose.{spots}
-use Rattle.reader.specs.Head.{NodeAt, NoNodeAt, body, childCount}
+use Rattle.reader.specs.declared.Head.{Head}
+use Rattle.reader.specs.declared.Head.the-variants as head
+use Rattle.reader.specs.Head.{NodeAt, NoNodeAt, Headed, body, childCount}
 use Rattle.reader.specs.Walk.{Stops, Walks}
 use Rattle.reader.proofs.Laws.{walks-nil, walks-prefix, walks-restriction, walks-choice, walks-parallel, no-children, one-child, two-children, stops-first, stops-second}
 use Rattle.steps.specs.declared.seen.Ask.{Ask}
@@ -35,6 +38,14 @@ spots-few c i n (pre a k t) = omega (arith, tick-length (c n k) i (spots c (i + 
 spots-few c i n (cho t u) = rw length-append (omega (arith, spots-few c (i + 1) (n + 1) t, spots-few c (i + 1 + length (encode t)) (n + 1 + size t) u))
 spots-few c i n (par t u) = rw length-append (omega (arith, spots-few c (i + 1) (n + 1) t, spots-few c (i + 1 + length (encode t)) (n + 1 + size t) u))
 spots-few c i n (res a t) = omega (arith, spots-few c (i + 2) (n + 1) t)
+
+-- the answer of `node_at`, once its case is known
+module _ (s : List ℕ) (at : ℕ) (h : Head) (H : Headed s at h) where
+  pub node-unknown : h ≡ head.Bad → NoNodeAt s at
+  node-unknown e = subst (Headed s at) e H
+
+  pub node-known : (kind children next : ℕ) → h ≡ head.Node kind children next → NodeAt s at kind children next
+  node-known kind children next e = subst (Headed s at) e H
 
 -- the outcome of a pass, once its case is known
 module _ (s : List ℕ) (at d k : ℕ) (ask : Ask) (r : Outcome) (w : Surveyed s at d k ask r) where
@@ -126,3 +137,18 @@ module _ (s : List ℕ) (at d k : ℕ) (hs : at < length s) (hd : d ≡ 0 → �
             parallel : kind ≡ 3 → Surveyed s at d k ask (found.Part n′ l′ x)
             parallel z = (par t u, walks-parallel s at d k hs hd hk kind children next H t n l (first .1) u n′ l′ (second .1) z,
                 subst (λ (p : Bool). Found ask at (node-limit - k) (two p t u) x) (eq-eqb kind 3 z) (both 3 z refl))
+
+-- the whole record
+module _ (s : List ℕ) (ask : Ask) (r : Outcome) (w : Surveyed s 0 depth-limit node-limit ask r) where
+  pub looked-refused : (c : ℕ) → r ≡ found.Refused c → Refuses s c
+  looked-refused c e = refuses-stopped s c (surveyed-refused s 0 depth-limit node-limit ask r w c e)
+
+  module _ (next l : ℕ) (x : Seen) (e : r ≡ found.Part next l x) where
+    part : (t : Term) × Walks s 0 depth-limit node-limit t next l × Found ask 0 0 t x
+    part = surveyed-part s 0 depth-limit node-limit ask r w next l x e
+
+    pub looked-trailing : next < length s → Refuses s 1
+    looked-trailing h = refuses-trailing s (part .0) next l (part .1) h
+
+    pub looked-whole : length s ≤ next → (t : Term) × Reads s t × Found ask 0 0 t x
+    looked-whole h = (part .0, reads-whole s (part .0) next l (part .1) h, part .2)
