@@ -2,3 +2,4 @@
 pub mod Tests
 pub mod Parts
 pub mod Surveys
+pub mod Plans
