@@ -1,5 +1,2 @@
 -- Laws that the functions' proofs cite.
-pub mod Tests
-pub mod Parts
-pub mod Surveys
 pub mod Plans

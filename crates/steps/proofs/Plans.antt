@@ -16,16 +16,16 @@ use Rattle.operations.specs.Change.{ForwardStep, UndoStep, ForwardStep.unreadab
 use Rattle.moves.specs.Choose.{forward-choice, undo-choice, spots}
 use Rattle.moves.specs.Move.{step, stuck, still, stands, move}
 use Rattle.moves.proofs.Answers.{spot-inside, are-places-one, are-places-two, forward-4-one, forward-4-two, forward-4-order, forward-5, forward-moves, forward-6, forward-done-one, forward-done-two, undo-7, undo-moves, undo-8, undo-spots, undo-done-one, undo-done-two}
-use Rattle.steps.specs.declared.seen.Move.{Move}
-use Rattle.steps.specs.declared.seen.Move.the-variants.{Still, Step, Stuck}
-use Rattle.steps.specs.declared.seen.Ask.{Ask}
-use Rattle.steps.specs.declared.seen.Seen.{Seen}
-use Rattle.steps.specs.declared.change.Plan.{Plan}
-use Rattle.steps.specs.declared.change.Plan.the-variants.{Refused, One, Two}
-use Rattle.steps.specs.declared.survey.Whole.{Whole}
-use Rattle.steps.specs.declared.survey.Whole.the-variants as whole
-use Rattle.steps.specs.Seen.{Found, moveOf}
-use Rattle.steps.specs.Survey.{Looked}
+use Rattle.survey.specs.declared.seen.Move.{Move}
+use Rattle.survey.specs.declared.seen.Move.the-variants.{Still, Step, Stuck}
+use Rattle.survey.specs.declared.seen.Ask.{Ask}
+use Rattle.survey.specs.declared.seen.Seen.{Seen}
+use Rattle.steps.specs.declared.Plan.{Plan}
+use Rattle.steps.specs.declared.Plan.the-variants.{Refused, One, Two}
+use Rattle.survey.specs.declared.pass.Whole.{Whole}
+use Rattle.survey.specs.declared.pass.Whole.the-variants as whole
+use Rattle.survey.specs.Seen.{Found, moveOf}
+use Rattle.survey.specs.Survey.{Looked}
 use Rattle.steps.specs.Plan.{planned, told, carried, Inside, place, settled}
 
 -- a list of elements below 256 is a list of bytes

@@ -1,3 +1,2 @@
-pub mod Seen
-pub mod Survey
+-- The answers of forward step and undo.
 pub mod Plan

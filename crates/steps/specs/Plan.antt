@@ -4,12 +4,12 @@ use mathlib.Core.Bool.{Bool, true, false}
 use Prim.Native.Nat.{ℕ, _+_, _<_, _/_, _%_}
 use lib.ListN.{set}
 use Rattle.ccsk.specs.Term.{Key, Label}
-use Rattle.steps.specs.declared.seen.Move.{Move}
-use Rattle.steps.specs.declared.seen.Move.the-variants.{Still, Step, Stuck}
-use Rattle.steps.specs.declared.change.Moved.{Moved}
-use Rattle.steps.specs.declared.change.Moved.the-variants as moved
-use Rattle.steps.specs.declared.change.Plan.{Plan}
-use Rattle.steps.specs.declared.change.Plan.the-variants.{Refused, One, Two}
+use Rattle.survey.specs.declared.seen.Move.{Move}
+use Rattle.survey.specs.declared.seen.Move.the-variants.{Still, Step, Stuck}
+use Rattle.steps.specs.declared.Moved.{Moved}
+use Rattle.steps.specs.declared.Moved.the-variants as moved
+use Rattle.steps.specs.declared.Plan.{Plan}
+use Rattle.steps.specs.declared.Plan.the-variants.{Refused, One, Two}
 
 -- The refusal number of an answer, 0 where the step was made; and its label, 0 where it was refused (01, Operations and their refusals).
 abbrev pub refusal : Moved → ℕ
