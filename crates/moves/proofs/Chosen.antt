@@ -2,7 +2,7 @@
 use mathlib.Core.Path.{_≡_, refl, ap, sym, _∙_}
 use mathlib.Core.Logic.{_⊎_, inl, inr, ⊎-elim, _↔_}
 use mathlib.Core.List.{List, [], _∷_, _++_, append-nil, append-assoc}
-use mathlib.Core.Bool.{Bool, true, false}
+use mathlib.Core.Bool.{Bool, true, false, _||_}
 use Prim.Native.Nat.{ℕ, zero, suc, _+_, _-_, _<_, _≤_}
 use native.Mathlib.Decide.{ℕ-discrete, decLt}
 use native.Mathlib.Omega.{arith}
@@ -16,7 +16,7 @@ use Rattle.ccsk.proofs.Basic.{fresh-labels, labels-fresh}
 use Rattle.ccsk.proofs.Clear.{clear, zeroed}
 use Rattle.sound.proofs.Conditions.{Marked, lone, pair as joint, marked}
 use Rattle.operations.specs.Order.{pair, ArePlaces}
-use Rattle.moves.specs.Choose.{or, forward-choice, undo-choice, chosen}
+use Rattle.moves.specs.Choose.{forward-choice, undo-choice, chosen}
 use Rattle.moves.proofs.Written.{keyed, written, shift-length}
 
 -- nothing is chosen of a term whose nodes fail the test
@@ -93,7 +93,7 @@ unfolding chosen
 in-order p q n nil h = refl
 in-order p q n (pre a k t) h = rw (in-order p q (n + 1) t h) (pick (ℕ-discrete n p) (ℕ-discrete n (suc q)))
   where
-    pick : Dec (n ≡ p) → Dec (n ≡ suc q) → tick (or (eqb n p) (eqb n (suc q))) 0 (shift 1 (chosen (forward-choice p 0) (n + 1) t ++ chosen (forward-choice (suc q) 0) (n + 1) t))
+    pick : Dec (n ≡ p) → Dec (n ≡ suc q) → tick ((eqb n p) || (eqb n (suc q))) 0 (shift 1 (chosen (forward-choice p 0) (n + 1) t ++ chosen (forward-choice (suc q) 0) (n + 1) t))
         ≡ tick (eqb n p) 0 (shift 1 (chosen (forward-choice p 0) (n + 1) t)) ++ tick (eqb n (suc q)) 0 (shift 1 (chosen (forward-choice (suc q) 0) (n + 1) t))
     pick (yes e) d = rw (eq-eqb n p e, ne-eqb n (suc q) (λ z. omega arith), shift-append 1 (chosen (forward-choice p 0) (n + 1) t) (chosen (forward-choice (suc q) 0) (n + 1) t))
     pick (no e) (yes d) = rw (ne-eqb n p e, eq-eqb n (suc q) d, none-before p (n + 1) t (omega arith)) (unfold shift in refl)

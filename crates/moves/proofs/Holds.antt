@@ -1,13 +1,12 @@
 -- The tests of the pass agree with the definitions: holds with std(X), stands with the keys of X.
 use mathlib.Core.Path.{_≡_, refl}
 use mathlib.Core.Logic.{_⊎_, inl, inr, ⊎-elim, _↔_}
-use mathlib.Core.Bool.{Bool, true, false, true≢false, false≢true}
+use mathlib.Core.Bool.{Bool, true, false, true≢false, false≢true, _||_}
 use Prim.Native.Nat.{ℕ, zero, suc}
 use native.Mathlib.Omega.{arith}
 use borrow.Author.Tests.{eqb-true, eqb-false, ne-eqb}
 use lib.Dec.{eqb}
 use Rattle.ccsk.specs.Term.{Term, Key, nil, pre, cho, par, res, Std, Has, Fsh}
-use Rattle.moves.specs.Choose.{or}
 use Rattle.moves.specs.Move.{holds, stands}
 
 -- a test answers b of the statement A
@@ -27,7 +26,7 @@ abbrev pub Denies : Bool → Type 0 → Type 0
 Denies true A = ¬ A
 Denies false A = A
 
-both-deny : (A B : Type 0) (b c : Bool) → Denies b A → Denies c B → Denies (or b c) (A × B)
+both-deny : (A B : Type 0) (b c : Bool) → Denies b A → Denies c B → Denies (b || c) (A × B)
 both-deny A B true c h i = λ s. h (s .0)
 both-deny A B false true h i = λ s. i (s .1)
 both-deny A B false false h i = (h, i)
@@ -45,7 +44,7 @@ holding (cho t u) = both-deny (Std t) (Std u) (holds t) (holds u) (holding t) (h
 holding (par t u) = both-deny (Std t) (Std u) (holds t) (holds u) (holding t) (holding u)
 holding (res a t) = holding t
 
-or-says : (A B : Type 0) (b c : Bool) → Says b A → Says c B → Says (or b c) (A ⊎ B)
+or-says : (A B : Type 0) (b c : Bool) → Says b A → Says c B → Says (b || c) (A ⊎ B)
 or-says A B true c h i = inl h
 or-says A B false true h i = inr i
 or-says A B false false h i = ⊎-elim h i

@@ -2,7 +2,7 @@
 use mathlib.Core.Path.{_≡_, refl, ap, sym, _∙_}
 use mathlib.Core.Logic.{_⊎_, inl, inr, ⊎-elim, _≢_}
 use mathlib.Core.List.{List, [], _∷_, _++_, append-nil}
-use mathlib.Core.Bool.{Bool, true, false}
+use mathlib.Core.Bool.{Bool, true, false, not}
 use Prim.Native.Nat.{ℕ, _+_, _<_}
 use native.Mathlib.Omega.{arith}
 use lib.Dec.{eqb}
@@ -14,7 +14,7 @@ use Rattle.ccsk.proofs.Place.{Under, Placed, alone, joined, places-under, step-
 use Rattle.ccsk.proofs.Decide.{co?, on?}
 use Rattle.ccsk.proofs.ForwardDec.{zero-one, shift-once, down-le, Below, With, Joint, single, inv-pre, inv-cho, inv-par, inv-res, label}
 use Rattle.moves.specs.Choose.{chosen}
-use Rattle.moves.specs.Move.{Move, still, step, stuck, not, holds, own, pass, overPrefix, overChoice, overParallel, overRestriction, joinedIf, hiddenIf, move}
+use Rattle.moves.specs.Move.{Move, still, step, stuck, holds, own, pass, overPrefix, overChoice, overParallel, overRestriction, joinedIf, hiddenIf, move}
 use Rattle.moves.proofs.Holds.{Says, equal-says, Holding, holding}
 use Rattle.moves.proofs.Split.{shift-nil, some-left, some-right, chosen-under, split, split-left, split-right}
 use Rattle.moves.proofs.Written.{keyed, written}

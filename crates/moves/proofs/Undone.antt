@@ -1,7 +1,7 @@
 -- The move of the prefixes that hold m decides the undo of m: none holds m, or the rules derive an undo with the label, or they derive none.
 use mathlib.Core.Path.{_≡_}
 use mathlib.Core.Logic.{inl, inr, ⊎-elim, _≢_}
-use mathlib.Core.Bool.{Bool, true, false}
+use mathlib.Core.Bool.{Bool, true, false, not}
 use Prim.Native.Nat.{_+_, _<_}
 use native.Mathlib.Omega.{arith}
 use lib.Dec.{eqb}
@@ -12,7 +12,7 @@ use Rattle.ccsk.proofs.Undo.{present, std-stuck}
 use Rattle.ccsk.proofs.Decide.{co?, on?}
 use Rattle.ccsk.proofs.UndoDec.{inv-pre, inv-cho, inv-par, inv-res, label}
 use Rattle.moves.specs.Choose.{undo-choice}
-use Rattle.moves.specs.Move.{Move, still, step, stuck, not, holds, own, pass, overPrefix, overChoice, overParallel, overRestriction, joinedIf, hiddenIf, move}
+use Rattle.moves.specs.Move.{Move, still, step, stuck, holds, own, pass, overPrefix, overChoice, overParallel, overRestriction, joinedIf, hiddenIf, move}
 use Rattle.moves.proofs.Holds.{Says, equal-says, Holding, holding}
 
 -- what a move tells of the undo of m

@@ -2,15 +2,15 @@
 use mathlib.Core.Path.{_≡_, refl, sym, ap, _∙_}
 use mathlib.Core.Logic.{_≢_}
 use mathlib.Core.List.{List, [], _∷_, _++_}
-use mathlib.Core.Bool.{Bool, true, false}
+use mathlib.Core.Bool.{Bool, true, false, _||_, not}
 use Prim.Native.Nat.{ℕ, zero, suc, _+_, _<_, _≤_}
 use native.Mathlib.Omega.{arith}
 use lib.Dec.{eqb}
 use lib.ListN.{length, getD, length-append}
 use Rattle.ccsk.specs.Term.{Term, nil, pre, cho, par, res, size}
 use Rattle.format.specs.Encode.{encode}
-use Rattle.moves.specs.Choose.{or, spots}
-use Rattle.moves.specs.Move.{not, holds, stands, move, overPrefix, overChoice, overParallel, overRestriction, still}
+use Rattle.moves.specs.Choose.{spots}
+use Rattle.moves.specs.Move.{holds, stands, move, overPrefix, overChoice, overParallel, overRestriction, still}
 use Rattle.survey.specs.declared.seen.Ask.{Ask}
 use Rattle.survey.specs.declared.seen.Seen.{Seen}
 use Rattle.survey.specs.Seen.{Found, moveOf, choiceOf, mayOf, two}
@@ -20,7 +20,7 @@ unfolding holds stands spots move
 found-nil ask i n r a s c x y m = record { any = a; stands = s; count = c; first = x; second = y; moved = m }
 
 module _ (ask : Ask) (i n a k : ℕ) (t : Term) (below r : Seen) (f : Found ask (i + 4) (n + 1) t below)
-    (any : r .any ≡ or (not (eqb k 0)) (below .any)) (stand : r .stands ≡ or (eqb (ask .key) k) (below .stands))
+    (any : r .any ≡ (not (eqb k 0)) || (below .any)) (stand : r .stands ≡ (eqb (ask .key) k) || (below .stands))
     (moved : moveOf (r .moved) ≡ overPrefix (choiceOf ask n k) (mayOf ask k) (not (eqb k 0)) (below .any) a (moveOf (below .moved))) where
   pub found-chosen : choiceOf ask n k ≡ true → r .count ≡ below .count + 1 → r .first ≡ i → r .second ≡ below .first → Found ask i n (pre a k t) r
   unfolding holds stands spots move
@@ -92,17 +92,17 @@ module _ (ask : Ask) (i n : ℕ) (t u : Term) (one other : Seen) (f : Found ask 
   two-spots true = refl
   two-spots false = refl
 
-  two-holds : (p : Bool) → holds (two p t u) ≡ or (holds t) (holds u)
+  two-holds : (p : Bool) → holds (two p t u) ≡ (holds t) || (holds u)
   unfolding holds
   two-holds true = refl
   two-holds false = refl
 
-  two-stands : (p : Bool) → stands (ask .key) (two p t u) ≡ or (stands (ask .key) t) (stands (ask .key) u)
+  two-stands : (p : Bool) → stands (ask .key) (two p t u) ≡ (stands (ask .key) t) || (stands (ask .key) u)
   unfolding stands
   two-stands true = refl
   two-stands false = refl
 
-  module _ (p : Bool) (r : Seen) (any : r .any ≡ or (one .any) (other .any)) (stand : r .stands ≡ or (one .stands) (other .stands))
+  module _ (p : Bool) (r : Seen) (any : r .any ≡ (one .any) || (other .any)) (stand : r .stands ≡ (one .stands) || (other .stands))
       (count : r .count ≡ one .count + other .count) (moved : moveOf (r .moved) ≡ move (choiceOf ask) (mayOf ask) n (two p t u)) where
     found-two : r .first ≡ getD (x ++ y) 0 0 → r .second ≡ getD (x ++ y) 1 0 → Found ask i n (two p t u) r
     found-two a b = record {

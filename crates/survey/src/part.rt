@@ -1,18 +1,17 @@
 // What is found of a part of the record, from what is found of the parts below it.
 use crate::seen::{over_choice, over_parallel, over_prefix, over_restriction, is_chosen, may_step, Ask, Move, Seen};
 ghost use mathlib.Core.Path.{_≡_};
-ghost use mathlib.Core.Bool.{Bool, true, false};
+ghost use mathlib.Core.Bool.{Bool, true, false, _||_};
 ghost use Prim.Native.Nat.{ℕ, _+_, _<_};
 ghost use lib.ListN.{length};
 ghost use Rattle.ccsk.specs.Term.{Term, nil, pre, res, size};
 ghost use Rattle.format.specs.Encode.{encode};
-ghost use Rattle.moves.specs.Choose.{or};
 ghost use Rattle.moves.specs.Move.{move};
 ghost use Rattle.survey.specs.Seen.{Found, two, moveOf, choiceOf, mayOf};
 
 // Whether one of the two holds.
 pub fn either(a: bool, b: bool) -> bool
-    ensures { λ r. ⌜ r ≡ or a b ⌝ }
+    ensures { λ r. ⌜ r ≡ (a || b) ⌝ }
 {
     if a {
         return true;
