@@ -157,6 +157,12 @@ pub struct Outcome {
     pub row: Vec<u16>,
 }
 
+impl fmt::Display for Outcome {
+    fn fmt(&self, to: &mut fmt::Formatter) -> fmt::Result {
+        write!(to, "answer {:#x}, record {}, row {:?}", self.answer, hex(&self.record), self.row)
+    }
+}
+
 pub fn hex(bytes: &[u8]) -> String {
     if bytes.is_empty() {
         return "-".into();

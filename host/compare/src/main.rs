@@ -3,6 +3,7 @@
 mod archive;
 mod call;
 mod cases;
+mod program;
 mod random;
 mod records;
 mod runs;
@@ -16,6 +17,7 @@ use std::process::ExitCode;
 const USAGE: &str = "\
 compare entries                          the entries of the library that this program was built with
 compare vectors reference|archive FILE.. every line of the files with right answers
+compare program PROGRAM FILE..           the listing program on every listing line of the files
 compare random N SEED                    N random records, every operation, both sides
 compare runs N SEED                      N sound records taken back to their blank form and done again
 compare speed                            time of the library over time of the plain implementation
@@ -31,6 +33,7 @@ fn main() -> ExitCode {
         ["entries"] => archive::print_entries(),
         ["vectors", "reference", files @ ..] => vectors::check(call::Side::Reference, files),
         ["vectors", "archive", files @ ..] => vectors::check(call::Side::Archive, files),
+        ["program", program, files @ ..] => program::check(program, files),
         ["random", n, seed] => random::check(number(n), number(seed)),
         ["runs", n, seed] => runs::check(number(n), number(seed)),
         ["speed"] => speed::ratios(),

@@ -31,7 +31,7 @@ pub fn check(cases: u64, seed: u64) -> bool {
 pub fn report(what: &str, call: &Call, record: &[u8], found: &Outcome, right: &Outcome) {
     println!("DIFFERENCE in {what}: {call}\n  record    {}", hex(record));
     for (side, outcome) in [("library  ", found), ("reference", right)] {
-        println!("  {side} answer {:#x}, record {}, row {:?}", outcome.answer, hex(&outcome.record), outcome.row);
+        println!("  {side} {outcome}");
     }
 }
 

@@ -5,6 +5,9 @@ use std::fs;
 
 use crate::call::{hex, pack, Call, Outcome, Side};
 
+/// So many differences are shown; the others are counted.
+const SHOWN: u32 = 5;
+
 /// Runs every line on one side; true if all agree. Lines whose entry is not there yet are skipped and counted.
 pub fn check(side: Side, files: &[&str]) -> bool {
     let (mut agreed, mut skipped, mut failed) = (0, 0, 0);
@@ -16,7 +19,9 @@ pub fn check(side: Side, files: &[&str]) -> bool {
                 None => skipped += 1,
                 Some(Err(found)) => {
                     failed += 1;
-                    println!("{file}:{}: {line}\n  found: {found}", number + 1);
+                    if failed <= SHOWN {
+                        println!("DIFFERENCE in {file}:{}: {line}\n  found: {found}", number + 1);
+                    }
                 }
             }
         }
@@ -37,7 +42,7 @@ fn check_line(side: Side, line: &str) -> Option<Result<(), String>> {
         _ => {
             let call = parse_call(words[0], &words[2..]);
             let right = parse_outcome(&call, &record, &fields);
-            (format!("{:?}", side.run(&call, &record)?), format!("{right:?}"))
+            (side.run(&call, &record)?.to_string(), right.to_string())
         }
     };
     Some(if found == right { Ok(()) } else { Err(found) })
@@ -123,7 +128,7 @@ fn listing(side: Side, record: &[u8]) -> Option<String> {
     Some(text)
 }
 
-fn unhex(text: &str) -> Vec<u8> {
+pub fn unhex(text: &str) -> Vec<u8> {
     if text == "-" {
         return Vec::new();
     }

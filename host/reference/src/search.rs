@@ -28,24 +28,31 @@ pub fn for_each_step(record: &[u8], mut show: impl FnMut(u16, u16, u8)) -> Resul
 struct Groups<'a> {
     tree: &'a Tree,
     paths: Paths,
-    /// The first place of each group that is still of use, or NONE.
-    head: Vec<u16>,
-    /// The next place of the same group, or NONE.
-    next: Vec<u16>,
+    /// The places group by group, ascending in each.
+    members: Vec<u16>,
+    /// ends[g]: where group g ends in `members`, and the next begins.
+    ends: Vec<u16>,
 }
 
 impl<'a> Groups<'a> {
-    /// Sorts the prefixes from node `from` on.
-    fn new(tree: &'a Tree, from: u16) -> Groups<'a> {
+    fn new(tree: &'a Tree) -> Groups<'a> {
         let nodes = tree.nodes.len();
-        let mut groups =
-            Groups { tree, paths: tree.paths(), head: vec![NONE; 256 + 2 * nodes], next: vec![NONE; nodes] };
-        for place in (from..nodes as u16).rev() {
-            if groups.could_step(place) {
-                let group = groups.group(place, tree.node(place).action);
-                groups.next[place as usize] = groups.head[group];
-                groups.head[group] = place;
-            }
+        let mut groups = Groups { tree, paths: tree.paths(), members: Vec::new(), ends: vec![0; 257 + 2 * nodes] };
+        let places: Vec<u16> = (0..nodes as u16).filter(|&place| groups.could_step(place)).collect();
+        let group_of = |groups: &Groups, place: u16| groups.group(place, tree.node(place).action);
+        // A counting sort: how many in each group, where each begins, then each place at its own.
+        for &place in &places {
+            let group = group_of(&groups, place);
+            groups.ends[group + 1] += 1;
+        }
+        for group in 1..groups.ends.len() {
+            groups.ends[group] += groups.ends[group - 1];
+        }
+        groups.members = vec![0; places.len()];
+        for place in places {
+            let group = group_of(&groups, place);
+            groups.members[groups.ends[group] as usize] = place;
+            groups.ends[group] += 1;
         }
         groups
     }
@@ -62,6 +69,13 @@ impl<'a> Groups<'a> {
             restriction => 256 + 2 * restriction as usize + usize::from(action >= 128),
         }
     }
+
+    /// The members of a group from this place on.
+    fn from(&self, group: usize, place: u16) -> &[u16] {
+        let begin = if group == 0 { 0 } else { self.ends[group - 1] };
+        let members = &self.members[begin as usize..self.ends[group] as usize];
+        &members[members.partition_point(|&member| member < place)..]
+    }
 }
 
 /// Shows the forward steps at or after (p, q) in order, until `show` breaks off.
@@ -71,7 +85,7 @@ pub fn steps_from<B>(
     q: u16,
     mut show: impl FnMut(u16, u16, u8) -> ControlFlow<B>,
 ) -> ControlFlow<B> {
-    let mut groups = Groups::new(tree, p);
+    let groups = Groups::new(tree);
     for place in p..tree.nodes.len() as u16 {
         if !groups.could_step(place) {
             continue;
@@ -82,19 +96,19 @@ pub fn steps_from<B>(
             show(place, 0, action)?;
         }
         let Some(opposite) = complement(action) else { continue };
-        let group = groups.group(place, opposite);
-        while groups.head[group] != NONE && groups.head[group] < place {
-            groups.head[group] = groups.next[groups.head[group] as usize];
-        }
-        let (mut other, mut meet) = (groups.head[group], place);
-        while other != NONE {
-            while tree.node(meet).end <= other {
+        let mut others = groups.from(groups.group(place, opposite), least.max(place + 1));
+        let mut meet = place;
+        while let [other, rest @ ..] = others {
+            while tree.node(meet).end <= *other {
                 meet = tree.node(meet).parent;
             }
-            if other >= least && tree.node(meet).kind == PARALLEL {
-                show(place, other, TAU)?;
+            if tree.node(meet).kind == PARALLEL {
+                show(place, *other, TAU)?;
+                others = rest;
+            } else {
+                // Two sides of a choice: nothing there joins.
+                others = &others[others.partition_point(|&other| other < tree.node(meet).end)..];
             }
-            other = groups.next[other as usize];
         }
     }
     ControlFlow::Continue(())
