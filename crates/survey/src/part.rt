@@ -27,8 +27,8 @@ pub fn at_nil() -> Seen
 }
 
 // Of the prefix at node n, whose bytes begin at `at`.
-pub fn at_prefix(ask: Ask, at: usize, n: usize, action: u8, key: u16, below: Seen) -> Seen
-    requires { ⌜ below .count < 65536 ⌝ }
+pub fn at_prefix(ask: Ask, at: u16, n: u16, action: u8, key: u16, below: Seen) -> Seen
+    requires { ⌜ below .count < 65535 ⌝ }
     ensures { λ r. ⌜ ((t : Term) → Found ask (at + 4) (n + 1) t below → Found ask at n (pre action key t) r) ⌝ }
 {
     let chosen = is_chosen(ask, n, key);
@@ -66,7 +66,7 @@ pub fn two_moves(parallel: bool, one: Seen, other: Seen) -> Move
 
 // Of a parallel or a choice, from its sides.
 pub fn at_two(parallel: bool, one: Seen, other: Seen) -> Seen
-    requires { ⌜ (one .count < 65536) × (other .count < 65536) ⌝ }
+    requires { ⌜ one .count + other .count < 65536 ⌝ }
     ensures { λ r. ⌜ ((ask : Ask) (i n : ℕ) (t u : Term) → Found ask (i + 1) (n + 1) t one → Found ask (i + 1 + length (encode t)) (n + 1 + size t) u other → Found ask i n (two parallel t u) r) ⌝ }
 {
     let moved = two_moves(parallel, one, other);

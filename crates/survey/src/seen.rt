@@ -16,8 +16,8 @@ pub enum Move {
 // A step that is asked about: an undo of the key, or a forward step with it at the node p, or at p and q if q is not 0.
 pub struct Ask {
     pub undo: bool,
-    pub p: usize,
-    pub q: usize,
+    pub p: u16,
+    pub q: u16,
     pub key: u16,
 }
 
@@ -26,14 +26,29 @@ pub struct Ask {
 pub struct Seen {
     pub any: bool,
     pub stands: bool,
-    pub count: usize,
-    pub first: usize,
-    pub second: usize,
+    pub count: u16,
+    pub first: u16,
+    pub second: u16,
     pub moved: Move,
 }
 
+// A 16-bit number as an index.
+pub fn wide(x: u16) -> usize
+    ensures { λ r. ⌜ r ≡ x ⌝ }
+{
+    x as usize
+}
+
+// An index that fits 16 bits: findings are kept small, since each level of the pass holds some.
+pub fn narrow(x: usize) -> u16
+    requires { ⌜ x < 65536 ⌝ }
+    ensures { λ r. ⌜ r ≡ x ⌝ }
+{
+    x as u16
+}
+
 // Whether a prefix at node n with this key is chosen.
-pub fn is_chosen(ask: Ask, n: usize, key: u16) -> bool
+pub fn is_chosen(ask: Ask, n: u16, key: u16) -> bool
     ensures { λ r. ⌜ r ≡ choiceOf ask n key ⌝ }
 {
     if ask.undo {

@@ -7,10 +7,11 @@ use Rattle.survey.proofs.pass.at_one.Lts as lts
 use Rattle.survey.proofs.part.at_prefix.Reads as at-prefix-reads
 use Rattle.survey.proofs.part.at_restriction.Reads as at-restriction-reads
 use Rattle.survey.proofs.pass.key_of.Reads as key-of-reads
+use Rattle.survey.proofs.seen.narrow.Reads as narrow-reads
 
 -- src/pass.rt:41:28
 add-key-of : tie.Need-add-key-of
-add-key-of c = omega arith
+add-key-of c = search needs
 
 -- src/pass.rt:41:26
 shared-slice-read-key-of : tie.Need-shared-slice-read-key-of
@@ -18,7 +19,7 @@ shared-slice-read-key-of c = omega (arith, c .before .before .before .pre .1 (c 
 
 -- src/pass.rt:41:39
 add-key-of-2 : tie.Need-add-key-of-2
-add-key-of-2 c = omega arith
+add-key-of-2 c = search needs
 
 -- src/pass.rt:41:37
 shared-slice-read-key-of-2 : tie.Need-shared-slice-read-key-of-2
@@ -28,11 +29,19 @@ shared-slice-read-key-of-2 c = omega (arith, c .before .before .before .before .
 key-of-requires : tie.Need-key-of-requires
 key-of-requires c κs = search needs
 
--- src/pass.rt:42:40
+-- src/pass.rt:42:31
+narrow-requires : tie.Need-narrow-requires
+narrow-requires c κs = search needs
+
+-- src/pass.rt:42:43
+narrow-requires-2 : tie.Need-narrow-requires-2
+narrow-requires-2 c κs = search needs
+
+-- src/pass.rt:42:56
 add-at-prefix : tie.Need-add-at-prefix
 add-at-prefix c = search needs
 
--- src/pass.rt:42:38
+-- src/pass.rt:42:54
 shared-slice-read-at-prefix : tie.Need-shared-slice-read-at-prefix
 shared-slice-read-at-prefix c = search needs
 
@@ -42,7 +51,7 @@ at-prefix-requires c κs = search needs
 
 -- src/pass.rt:42:9
 returns : tie.Need-returns
-returns c = record { prefix = λ q t f. rw (← c .before .before .key-of .ensures) (c .at-prefix .ensures t f); restriction = λ q. absurd (q (c .before .before .before .before .before .if1 .taken)) }
+returns c = record { prefix = λ q t. rw (c .before .before .before .narrow .ensures, c .before .before .narrow2 .ensures, c .before .before .before .before .key-of .ensures) at (c .at-prefix .ensures t); restriction = λ q. absurd (q (c .before .before .before .before .before .before .before .if1 .taken)) }
 
 -- src/pass.rt:44:22
 add-at-restriction : tie.Need-add-at-restriction
@@ -69,6 +78,8 @@ at-one-spec =
     add-key-of-2
     shared-slice-read-key-of-2
     key-of-requires
+    narrow-requires
+    narrow-requires-2
     add-at-prefix
     shared-slice-read-at-prefix
     at-prefix-requires
