@@ -1,33 +1,23 @@
+-- `forward` meets its contract: the plan fits the promise, and carrying it out gives the planned answer and bytes.
 use borrow.Author.Needs.{needs}
 use Rattle.steps.proofs.forward.Statement.{statement}
 use Rattle.steps.proofs.forward.Tie as tie
-use Rattle.steps.proofs.forward.Reads as reads
-use Rattle.steps.proofs.forward.Lts as lts
-use Rattle.steps.proofs.carry_out.Reads as carry-out-reads
-use Rattle.steps.proofs.plan_forward.Reads as plan-forward-reads
-use Rattle.steps.proofs.wide.Reads as wide-reads
 
--- src/lib.rt:151:36
 wide-requires : tie.Need-wide-requires
 wide-requires c κs = search needs
 
--- src/lib.rt:151:47
 wide-requires-2 : tie.Need-wide-requires-2
 wide-requires-2 c κs = search needs
 
--- src/lib.rt:151:9
 plan-forward-requires : tie.Need-plan-forward-requires
 plan-forward-requires c κs = search needs
 
--- src/lib.rt:152:5
 carry-out-requires : tie.Need-carry-out-requires
 carry-out-requires c κs = search needs
 
--- src/lib.rt:148:1
 same-length : tie.Need-same-length
 same-length c = search needs
 
--- src/lib.rt:148:1
 returns : tie.Need-returns
 returns c = let e = c .before .before .carry-out .ensures in rw (e .0, e .1, e .2) (rw (c .before .before .before .before .before .before .wide .ensures, c .before .before .before .before .before .wide2 .ensures) at (c .before .before .before .before .plan-forward .ensures .1))
 
