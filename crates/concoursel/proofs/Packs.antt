@@ -1,8 +1,7 @@
 -- The packed answers: how an answer that fits is packed, and that only one number and one record fit.
-use mathlib.Core.Path.{_≡_, subst, ap, sym, _∙_}
+use mathlib.Core.Path.{_≡_}
 use mathlib.Core.List.{List}
-use Prim.Native.Nat.{ℕ, _+_, _*_}
-use native.Mathlib.Omega.{arith}
+use Prim.Native.Nat.{ℕ}
 use Rattle.operations.specs.Change.{ForwardStep, UndoStep}
 use Rattle.operations.specs.Ask.{ReadRecord}
 use Rattle.operations.proofs.ChangeOnce.{forward-once, undo-step-once}

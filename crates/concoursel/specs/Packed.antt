@@ -1,5 +1,4 @@
 -- The answers of the entries for a host: one number each.
-use mathlib.Core.Path.{_≡_}
 use mathlib.Core.List.{List}
 use Prim.Native.Nat.{ℕ, _+_, _*_}
 use Rattle.ccsk.specs.Term.{Key, Label, Node}

@@ -1,11 +1,15 @@
 // The entries for a host: every operation on numbers and byte slices. Each calls the proved operation and packs its answer into one number.
-use reader::{Count, Key, Node};
+use reader::Count;
+use reader::Key;
+use reader::Node;
 use steps::Moved;
 ghost use mathlib.Core.Path.{_≡_};
 ghost use Rattle.steps.specs.Plan.{refusal, label};
 ghost use Rattle.concoursel.specs.Packed.{step-answer, PackedRead, PackedForward, PackedUndo};
 
-// A refusal number and a value below 2^16, in the packing of the 64-bit answers.
+// What a refusal number is multiplied by: 2^8 in the answer of a step, 2^48 in the other answers.
+const STEP_REFUSAL: u32 = 256;
+
 const REFUSAL: u64 = 281474976710656;
 
 // Reading: refusal × 2^48 + number of nodes.
@@ -40,7 +44,7 @@ fn packed(answer: Moved) -> u32
     ensures { λ r. ⌜ r ≡ step-answer (refusal answer) (label answer) ⌝ }
 {
     match answer {
-        Moved::Refused(c) => c as u32 * 256,
+        Moved::Refused(c) => c as u32 * STEP_REFUSAL,
         Moved::Done(l) => l as u32,
     }
 }

@@ -47,11 +47,12 @@ Inside n (Refused c) = Unit {0}
 Inside n (One l i) = i + 3 < n
 Inside n (Two l i j) = (i + 3 < n) × (j + 3 < n)
 
--- a step at one place or two, unless the key stands already or the rules derive none
+-- a step at one place or two
 abbrev pub place : Bool → Label → ℕ → ℕ → Plan
 place true l i j = Two l i j
 place false l i j = One l i
 
+-- the plan at places that are there: the step, unless the key stands already (5) or the rules derive none (6)
 abbrev pub settled : Bool → Bool → ℕ → ℕ → Move → Plan
 settled true two i j x = Refused 5
 settled false two i j (Step l) = place two l i j

@@ -1,14 +1,21 @@
 // The two operations that change a record by a step: forward and undo. Each plans on the bytes as they are, and then writes; a refusal writes nothing.
-use survey::pass::{survey_all, Whole};
-use survey::seen::{wide, Ask, Move, Seen};
-use reader::{Key, Node};
+use reader::Key;
+use reader::Node;
+use survey::pass::Whole;
+use survey::pass::survey_all;
+use survey::seen::Ask;
+use survey::seen::Move;
+use survey::seen::NOT_DONE;
+use survey::seen::Seen;
+use survey::seen::wide;
 ghost use mathlib.Core.Path.{_≡_};
 ghost use Prim.Native.Nat.{_+_, _<_, _/_, _%_};
 ghost use lib.ListN.{length, set};
 ghost use Rattle.operations.specs.Change.{ForwardStep, UndoStep};
 ghost use Rattle.steps.specs.Plan.{refusal, label, planned, told, carried, Inside, settled};
 
-// Refusals (01, Operations and their refusals).
+// Refusals (01, Operations and their refusals): the key is 0; p and q are no places; the key stands in the record; no such step;
+// the key stands nowhere; no such undo.
 pub const KEY_ZERO: u8 = 3;
 
 pub const NO_PLACES: u8 = 4;
@@ -27,7 +34,7 @@ pub enum Moved {
     Done(u8),
 }
 
-// What is to be done: nothing but refuse, or make a step with this label at one place or two, where these bytes begin.
+// What is to be done: refuse, or make a step with this label at one place or two, given by where the bytes of each begin.
 pub enum Plan {
     Refused(u8),
     One(u8, u16),
@@ -44,7 +51,7 @@ fn write(bytes: &mut [u8], at: u16, key: u16)
     bytes[i + 3] = (key % 256) as u8;
 }
 
-// Carries out a plan whose places stand in the record.
+// Carries out a plan with a key, and tells the answer. The caller has seen that the places of the plan stand in the record.
 fn carry_out(bytes: &mut [u8], plan: Plan, key: u16) -> Moved
     requires { ⌜ Inside (length (now bytes)) plan ⌝ }
     ensures { λ r. ⌜ (refusal r ≡ planned plan) × (label r ≡ told plan) × (now (bytes .exit) ≡ carried key plan (now (bytes .entry))) ⌝ }
@@ -63,7 +70,7 @@ fn carry_out(bytes: &mut [u8], plan: Plan, key: u16) -> Moved
     }
 }
 
-// The plan of a forward step at places that are there: refused where the key stands or the rules derive no step.
+// The plan of a forward step at one place, or at two, that are there: refused where the key stands or the rules derive no step.
 fn settle(seen: Seen, two: bool) -> Plan
     ensures { λ r. ⌜ r ≡ settled (seen .stands) two (seen .first) (seen .second) (seen .moved) ⌝ }
 {
@@ -87,7 +94,15 @@ fn settle(seen: Seen, two: bool) -> Plan
 fn plan_forward(s: &[u8], p: u16, q: u16, key: u16) -> Plan
     ensures { λ r. ⌜ Inside (length (now (s .entry))) r × ForwardStep (now (s .entry)) p q key (planned r) (told r) (carried key r (now (s .entry))) ⌝ }
 {
-    match survey_all(s, Ask { undo: false, p: p, q: q, key: key }) {
+    match survey_all(
+        s,
+        Ask {
+            undo: false,
+            p: p,
+            q: q,
+            key: key,
+        },
+    ) {
         Whole::Refused(c) => Plan::Refused(c),
         Whole::Seen(seen) => {
             if key == 0 {
@@ -110,11 +125,19 @@ fn plan_forward(s: &[u8], p: u16, q: u16, key: u16) -> Plan
     }
 }
 
-// The plan of an undo of the key.
+// The plan of the undo of the key.
 fn plan_undo(s: &[u8], key: u16) -> Plan
     ensures { λ r. ⌜ Inside (length (now (s .entry))) r × UndoStep (now (s .entry)) key (planned r) (told r) (carried 0 r (now (s .entry))) ⌝ }
 {
-    match survey_all(s, Ask { undo: true, p: 0, q: 0, key: key }) {
+    match survey_all(
+        s,
+        Ask {
+            undo: true,
+            p: 0,
+            q: 0,
+            key: key,
+        },
+    ) {
         Whole::Refused(c) => Plan::Refused(c),
         Whole::Seen(seen) => {
             if key == 0 {
@@ -151,5 +174,5 @@ pub fn undo(bytes: &mut [u8], key: Key) -> Moved
     ensures { λ r. ⌜ UndoStep (now (bytes .entry)) (key .0) (refusal r) (label r) (now (bytes .exit)) ⌝ }
 {
     let plan = plan_undo(bytes, key.0);
-    carry_out(bytes, plan, 0)
+    carry_out(bytes, plan, NOT_DONE)
 }

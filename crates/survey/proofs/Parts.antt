@@ -1,9 +1,9 @@
 -- The findings of a node, from those of its children.
-use mathlib.Core.Path.{_≡_, refl, sym, ap, _∙_}
+use mathlib.Core.Path.{_≡_, refl, sym, _∙_}
 use mathlib.Core.Logic.{_≢_}
 use mathlib.Core.List.{List, [], _∷_, _++_}
 use mathlib.Core.Bool.{Bool, true, false, _||_, not}
-use Prim.Native.Nat.{ℕ, zero, suc, _+_, _<_, _≤_}
+use Prim.Native.Nat.{ℕ, _+_, _≤_}
 use native.Mathlib.Omega.{arith}
 use lib.Dec.{eqb}
 use lib.ListN.{length, getD, length-append}
@@ -13,7 +13,8 @@ use Rattle.moves.specs.Choose.{spots}
 use Rattle.moves.specs.Move.{holds, stands, move, overPrefix, overChoice, overParallel, overRestriction, still}
 use Rattle.survey.specs.declared.seen.Ask.{Ask}
 use Rattle.survey.specs.declared.seen.Seen.{Seen}
-use Rattle.survey.specs.Seen.{Found, moveOf, choiceOf, mayOf, two}
+use Rattle.survey.specs.Seen.{Found, moveOf, choiceOf, mayOf}
+use Rattle.survey.specs.Over.{two, Sides}
 
 pub found-nil : (ask : Ask) (i n : ℕ) (r : Seen) → r .any ≡ false → r .stands ≡ false → r .count ≡ 0 → r .first ≡ 0 → r .second ≡ 0 → moveOf (r .moved) ≡ still → Found ask i n nil r
 unfolding holds stands spots move
@@ -30,7 +31,7 @@ module _ (ask : Ask) (i n a k : ℕ) (t : Term) (below r : Seen) (f : Found ask 
     count = rw c (omega (arith, f .count));
     first = rw c y;
     second = rw c (z ∙ f .first);
-    moved = rw (← f .any, ← f .moved) moved
+    moved = rw (← f .any, ← f .moved) moved;
   }
 
   pub found-passed : choiceOf ask n k ≡ false → r .count ≡ below .count → r .first ≡ below .first → r .second ≡ below .second → Found ask i n (pre a k t) r
@@ -41,7 +42,7 @@ module _ (ask : Ask) (i n a k : ℕ) (t : Term) (below r : Seen) (f : Found ask 
     count = rw c (x ∙ f .count);
     first = rw c (y ∙ f .first);
     second = rw c (z ∙ f .second);
-    moved = rw (← f .any, ← f .moved) moved
+    moved = rw (← f .any, ← f .moved) moved;
   }
 
 pub found-restricted : (ask : Ask) (i n a : ℕ) (t : Term) (below r : Seen) → Found ask (i + 2) (n + 1) t below
@@ -54,7 +55,7 @@ found-restricted ask i n a t below r f b s c x y m = record {
   count = c ∙ f .count;
   first = x ∙ f .first;
   second = y ∙ f .second;
-  moved = rw (← f .moved) m
+  moved = rw (← f .moved) m;
 }
 
 -- the first two of two lists in a row
@@ -72,14 +73,14 @@ two-left [] y e = absurd (omega arith)
 two-left (b ∷ []) y e = absurd (omega arith)
 two-left (b ∷ (d ∷ x)) y e = (refl, refl)
 
-module _ (ask : Ask) (i n : ℕ) (t u : Term) (one other : Seen) (f : Found ask (i + 1) (n + 1) t one) (g : Found ask (i + 1 + length (encode t)) (n + 1 + size t) u other) where
+module _ (ask : Ask) (i n : ℕ) (t u : Term) (one other : Seen) (sides : Sides ask i n t u one other) where
   pub parallel-move : overParallel (moveOf (one .moved)) (moveOf (other .moved)) ≡ move (choiceOf ask) (mayOf ask) n (par t u)
   unfolding move
-  parallel-move = rw (f .moved, g .moved)
+  parallel-move = rw (sides .left .moved, sides .right .moved)
 
   pub choice-move : overChoice (one .any) (other .any) (moveOf (one .moved)) (moveOf (other .moved)) ≡ move (choiceOf ask) (mayOf ask) n (cho t u)
   unfolding move
-  choice-move = rw (f .moved, g .moved, f .any, g .any)
+  choice-move = rw (sides .left .moved, sides .right .moved, sides .left .any, sides .right .any)
 
   abbrev x : List ℕ
   x = spots (choiceOf ask) (i + 1) (n + 1) t
@@ -106,19 +107,19 @@ module _ (ask : Ask) (i n : ℕ) (t u : Term) (one other : Seen) (f : Found ask 
       (count : r .count ≡ one .count + other .count) (moved : moveOf (r .moved) ≡ move (choiceOf ask) (mayOf ask) n (two p t u)) where
     found-two : r .first ≡ getD (x ++ y) 0 0 → r .second ≡ getD (x ++ y) 1 0 → Found ask i n (two p t u) r
     found-two a b = record {
-      any = rw (two-holds p, ← f .any, ← g .any) any;
-      stands = rw (two-stands p, ← f .stands, ← g .stands) stand;
-      count = rw (two-spots p, length-append x y, ← f .count, ← g .count) count;
+      any = rw (two-holds p, ← sides .left .any, ← sides .right .any) any;
+      stands = rw (two-stands p, ← sides .left .stands, ← sides .right .stands) stand;
+      count = rw (two-spots p, length-append x y, ← sides .left .count, ← sides .right .count) count;
       first = rw (two-spots p) a;
       second = rw (two-spots p) b;
-      moved = moved
+      moved = moved;
     }
 
     pub found-right : one .count ≡ 0 → r .first ≡ other .first → r .second ≡ other .second → Found ask i n (two p t u) r
-    found-right c a b = let e : 0 ≡ length x = sym c ∙ f .count in found-two (a ∙ g .first ∙ sym (none-left x y 0 e)) (b ∙ g .second ∙ sym (none-left x y 1 e))
+    found-right c a b = let e : 0 ≡ length x = sym c ∙ sides .left .count in found-two (a ∙ sides .right .first ∙ sym (none-left x y 0 e)) (b ∙ sides .right .second ∙ sym (none-left x y 1 e))
 
     pub found-each : one .count ≡ 1 → r .first ≡ one .first → r .second ≡ other .first → Found ask i n (two p t u) r
-    found-each c a b = let e = one-left x y (sym c ∙ f .count) in found-two (a ∙ f .first ∙ sym (e .0)) (b ∙ g .first ∙ sym (e .1))
+    found-each c a b = let e = one-left x y (sym c ∙ sides .left .count) in found-two (a ∙ sides .left .first ∙ sym (e .0)) (b ∙ sides .right .first ∙ sym (e .1))
 
     pub found-left : one .count ≢ 0 → one .count ≢ 1 → r .first ≡ one .first → r .second ≡ one .second → Found ask i n (two p t u) r
-    found-left c d a b = let e = two-left x y (omega (arith, f .count)) in found-two (a ∙ f .first ∙ sym (e .0)) (b ∙ f .second ∙ sym (e .1))
+    found-left c d a b = let e = two-left x y (omega (arith, sides .left .count)) in found-two (a ∙ sides .left .first ∙ sym (e .0)) (b ∙ sides .left .second ∙ sym (e .1))

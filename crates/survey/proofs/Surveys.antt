@@ -1,13 +1,13 @@
 -- What the pass finds, step by step along the reading of the record.
 use mathlib.Core.Path.{_≡_, refl, sym, subst, _∙_}
-use mathlib.Core.Logic.{_⊎_, inl, inr, ⊎-elim, _≢_}
-use mathlib.Core.List.{List, [], _∷_, _++_}
+use mathlib.Core.Logic.{_⊎_, ⊎-elim}
+use mathlib.Core.List.{List}
 use mathlib.Core.Bool.{Bool, true, false}
-use Prim.Native.Nat.{ℕ, zero, suc, _+_, _*_, _-_, _<_, _≤_}
+use Prim.Native.Nat.{ℕ, suc, _+_, _*_, _-_, _<_, _≤_}
 use native.Mathlib.Omega.{arith}
 use borrow.Author.Tests.{eq-eqb, ne-eqb}
 use lib.Dec.{eqb}
-use lib.ListN.{length, getD, length-append}
+use lib.ListN.{length, length-append}
 use Rattle.ccsk.specs.Term.{Term, Key, Node, nil, pre, cho, par, res, size, tick}
 use Rattle.format.specs.Limits.{node-limit, depth-limit}
 use Rattle.format.specs.Read.{Reads, Refuses}
@@ -24,8 +24,9 @@ use Rattle.survey.specs.declared.seen.Ask.{Ask}
 use Rattle.survey.specs.declared.seen.Seen.{Seen}
 use Rattle.survey.specs.declared.pass.Outcome.{Outcome}
 use Rattle.survey.specs.declared.pass.Outcome.the-variants as found
-use Rattle.survey.specs.Seen.{Found, two, choiceOf}
-use Rattle.survey.specs.Survey.{OverOne, Surveyed}
+use Rattle.survey.specs.Seen.{Found, choiceOf}
+use Rattle.survey.specs.Over.{OverOne, OverTwo, two}
+use Rattle.survey.specs.Survey.{Surveyed}
 
 -- no more prefixes are chosen than there are nodes
 tick-length : (b : Bool) (i : ℕ) (l : List ℕ) → length (tick b i l) ≤ suc (length l)
@@ -129,9 +130,7 @@ module _ (s : List ℕ) (at d k : ℕ) (hs : at < length s) (hd : d ≡ 0 → �
         pub surveyed-second-stop : (c : ℕ) → r₂ ≡ found.Refused c → Stops s at d k c
         surveyed-second-stop c q = stops-second s at d k hs hd hk kind children next H (first .0) n l (first .1) c sides (surveyed-refused s n (d - 1) l ask r₂ w₂ c q)
 
-        pub surveyed-two : (n′ l′ : ℕ) (other : Seen) → r₂ ≡ found.Part n′ l′ other → (x : Seen)
-            → ((ask : Ask) (i n : ℕ) (t u : Term) → Found ask (i + 1) (n + 1) t below → Found ask (i + 1 + length (encode t)) (n + 1 + size t) u other → Found ask i n (two (eqb kind 3) t u) x)
-            → Surveyed s at d k ask (found.Part n′ l′ x)
+        pub surveyed-two : (n′ l′ : ℕ) (other : Seen) → r₂ ≡ found.Part n′ l′ other → (x : Seen) → OverTwo (eqb kind 3) below other x → Surveyed s at d k ask (found.Part n′ l′ x)
         surveyed-two n′ l′ other e₂ x f = ⊎-elim choice parallel sides
           where
             second : (u : Term) × Walks s n (d - 1) l u n′ l′ × Found ask n (node-limit - l) u other
@@ -144,17 +143,24 @@ module _ (s : List ℕ) (at d k : ℕ) (hs : at < length s) (hd : d ≡ 0 → �
             u = second .0
 
             both : (m : ℕ) → kind ≡ m → body m ≡ 0 → Found ask at (node-limit - k) (two (eqb kind 3) t u) x
-            both m z y = f ask at (node-limit - k) t u
-                (moved-to next (at + 1) _ _ t below (omega (arith, ends m z)) (omega arith) (first .2))
-                (moved-to n (at + 1 + length (encode t)) _ _ u other (omega (arith, ends m z, first .1 .ends)) (omega (arith, first .1 .nodes)) (second .2))
+            both m z y = f ask at (node-limit - k) t u record {
+              left = moved-to next (at + 1) _ _ t below (omega (arith, ends m z)) (omega arith) (first .2);
+              right = moved-to n (at + 1 + length (encode t)) _ _ u other (omega (arith, ends m z, first .1 .ends)) (omega (arith, first .1 .nodes)) (second .2);
+            }
 
             choice : kind ≡ 2 → Surveyed s at d k ask (found.Part n′ l′ x)
-            choice z = (cho t u, walks-choice s at d k hs hd hk kind children next H t n l (first .1) u n′ l′ (second .1) z,
-                subst (λ (p : Bool). Found ask at (node-limit - k) (two p t u) x) (ne-eqb kind 3 (λ y. omega arith)) (both 2 z refl))
+            choice z = (
+              cho t u,
+              walks-choice s at d k hs hd hk kind children next H t n l (first .1) u n′ l′ (second .1) z,
+              subst (λ (p : Bool). Found ask at (node-limit - k) (two p t u) x) (ne-eqb kind 3 (λ y. omega arith)) (both 2 z refl),
+            )
 
             parallel : kind ≡ 3 → Surveyed s at d k ask (found.Part n′ l′ x)
-            parallel z = (par t u, walks-parallel s at d k hs hd hk kind children next H t n l (first .1) u n′ l′ (second .1) z,
-                subst (λ (p : Bool). Found ask at (node-limit - k) (two p t u) x) (eq-eqb kind 3 z) (both 3 z refl))
+            parallel z = (
+              par t u,
+              walks-parallel s at d k hs hd hk kind children next H t n l (first .1) u n′ l′ (second .1) z,
+              subst (λ (p : Bool). Found ask at (node-limit - k) (two p t u) x) (eq-eqb kind 3 z) (both 3 z refl),
+            )
 
 -- the whole record
 module _ (s : List ℕ) (ask : Ask) (r : Outcome) (w : Surveyed s 0 depth-limit node-limit ask r) where

@@ -1,11 +1,10 @@
 -- What the program's findings mean: its enums and structs against the definitions of one pass.
 use mathlib.Core.Path.{_≡_}
-use mathlib.Core.List.{List}
 use mathlib.Core.Bool.{Bool, true, false}
 use Prim.Native.Nat.{ℕ}
 use lib.Dec.{eqb}
 use lib.ListN.{length, getD}
-use Rattle.ccsk.specs.Term.{Term, Key, Node, cho, par}
+use Rattle.ccsk.specs.Term.{Term, Key, Node}
 use Rattle.moves.specs.Choose.{forward-choice, undo-choice, spots}
 use Rattle.moves.specs.Move.{holds, move}
 use Rattle.moves.specs.Move as pass
@@ -20,6 +19,7 @@ moveOf Still = pass.still
 moveOf (Step l) = pass.step l
 moveOf Stuck = pass.stuck
 
+-- the first if the test holds, the second if not
 abbrev pub pick : {A : Type 0} → Bool → A → A → A
 pick true a b = a
 pick false a b = b
@@ -29,7 +29,7 @@ abbrev pub Tells : Bool → Type 0 → Type 0
 Tells true A = A
 Tells false A = ¬ A
 
--- the prefixes that are chosen, and the keys with which a chosen one may step
+-- the prefixes that are chosen, and the keys with which a chosen one may step: any for an undo, 0 for a forward step
 abbrev pub choiceOf : Ask → Node → Key → Bool
 choiceOf ask n k = pick (ask .undo) (undo-choice (ask .key) n k) (forward-choice (ask .p) (ask .q) n k)
 
@@ -44,8 +44,3 @@ pub record Found (ask : Ask) (i : ℕ) (n : Node) (t : Term) (r : Seen) : Type 0
   pub first : r .first ≡ getD (spots (choiceOf ask) i n t) 0 0
   pub second : r .second ≡ getD (spots (choiceOf ask) i n t) 1 0
   pub moved : moveOf (r .moved) ≡ move (choiceOf ask) (mayOf ask) n t
-
--- a parallel or a choice
-abbrev pub two : Bool → Term → Term → Term
-two true t u = par t u
-two false t u = cho t u

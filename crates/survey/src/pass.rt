@@ -1,38 +1,48 @@
 // One pass over a record: it is read, and what is found of it is gathered from the leaves to the root.
-use crate::part::{at_nil, at_prefix, at_restriction, at_two};
-use crate::seen::{narrow, wide, Ask, Seen};
-use reader::{node_at, Head, DEPTH, NODES, NO_RECORD, OVER_LIMIT, PARALLEL, PREFIX};
+use crate::part::at_nil;
+use crate::part::at_prefix;
+use crate::part::at_restriction;
+use crate::part::at_two;
+use crate::seen::Ask;
+use crate::seen::Seen;
+use crate::seen::narrow;
+use crate::seen::wide;
+use reader::DEPTH;
+use reader::Head;
+use reader::NO_RECORD;
+use reader::NODES;
+use reader::OVER_LIMIT;
+use reader::PARALLEL;
+use reader::PREFIX;
+use reader::node_at;
 ghost use mathlib.Core.Path.{_≡_};
 ghost use Prim.Native.Nat.{_+_, _*_, _≤_, _<_};
-ghost use lib.ListN.{length, getD};
+ghost use lib.ListN.{length};
 ghost use Rattle.format.specs.Limits.{node-limit};
 ghost use Rattle.format.specs.Read.{keyOf};
-ghost use Rattle.survey.specs.Survey.{OverOne, Surveyed, Looked};
+ghost use Rattle.survey.specs.Over.{OverOne};
+ghost use Rattle.survey.specs.Survey.{Surveyed, Looked};
 
 // What a pass over the term at a place comes to: a refusal, or where the term ends, how many nodes may still come, and what was found.
 pub enum Outcome {
     Refused(u8),
-    Part {
-        next: u16,
-        left: u16,
-        seen: Seen,
-    },
+    Part(u16, u16, Seen),
 }
 
-// What a pass over a whole record comes to.
+// What a pass over a whole record comes to: a refusal, or what was found.
 pub enum Whole {
     Refused(u8),
     Seen(Seen),
 }
 
-// A key from its two bytes.
+// The key whose two bytes these are.
 pub fn key_of(high: u8, low: u8) -> u16
     ensures { λ r. ⌜ r ≡ keyOf high low ⌝ }
 {
     high as u16 * 256 + low as u16
 }
 
-// Of a prefix or a restriction at `at`, node n. The caller has seen that its body stands there.
+// What is found of the prefix or the restriction at node n, whose bytes begin at `at`. The caller has seen that its body stands there.
 fn at_one(s: &[u8], at: usize, kind: usize, n: usize, ask: Ask, below: Seen) -> Seen
     requires { ⌜ (at + 1 < length (now s)) × (kind ≡ 1 → at + 3 < length (now s)) × (below .count < 65535) × (at < 65536) × (n < 65536) ⌝ }
     ensures { λ r. ⌜ OverOne (now (s .entry)) at kind n ask below r ⌝ }
@@ -44,7 +54,7 @@ fn at_one(s: &[u8], at: usize, kind: usize, n: usize, ask: Ask, below: Seen) -> 
     at_restriction(s[at + 1], below)
 }
 
-// The term at `at`: at most `deep` levels and `left` nodes may come.
+// What a pass over the term at `at` comes to: at most `deep` levels and `left` nodes may come, so its root is node NODES - left.
 fn survey(s: &[u8], at: usize, deep: usize, left: usize, ask: Ask) -> Outcome
     requires { ⌜ (left ≤ node-limit) × (at + 4 * left ≤ 4 * node-limit) ⌝ }
     ensures { λ r. ⌜ Surveyed (now (s .entry)) at deep left ask r ⌝ }
@@ -60,19 +70,26 @@ fn survey(s: &[u8], at: usize, deep: usize, left: usize, ask: Ask) -> Outcome
     }
     match node_at(s, at) {
         Head::Bad => Outcome::Refused(NO_RECORD),
-        Head::Node { kind, children, next } => {
+        Head::Node {
+            kind,
+            children,
+            next,
+        } => {
             if children == 0 {
-                return Outcome::Part { next: narrow(next), left: narrow(left - 1), seen: at_nil() };
+                return Outcome::Part(narrow(next), narrow(left - 1), at_nil());
             }
             match survey(s, next, deep - 1, left - 1, ask) {
                 Outcome::Refused(c) => Outcome::Refused(c),
-                Outcome::Part { next: second, left: rest, seen: below } => {
+                Outcome::Part(second, rest, below) => {
                     if children == 1 {
-                        return Outcome::Part { next: second, left: rest, seen: at_one(s, at, kind, NODES - left, ask, below) };
+                        let found = at_one(s, at, kind, NODES - left, ask, below);
+                        return Outcome::Part(second, rest, found);
                     }
                     match survey(s, wide(second), deep - 1, wide(rest), ask) {
                         Outcome::Refused(c) => Outcome::Refused(c),
-                        Outcome::Part { next: end, left: last, seen: other } => Outcome::Part { next: end, left: last, seen: at_two(kind == PARALLEL, below, other) },
+                        Outcome::Part(end, last, other) => {
+                            Outcome::Part(end, last, at_two(kind == PARALLEL, below, other))
+                        }
                     }
                 }
             }
@@ -80,13 +97,13 @@ fn survey(s: &[u8], at: usize, deep: usize, left: usize, ask: Ask) -> Outcome
     }
 }
 
-// The whole record.
+// What a pass over the whole record comes to.
 pub fn survey_all(s: &[u8], ask: Ask) -> Whole
     ensures { λ r. ⌜ Looked (now (s .entry)) ask r ⌝ }
 {
     match survey(s, 0, DEPTH, NODES, ask) {
         Outcome::Refused(c) => Whole::Refused(c),
-        Outcome::Part { next, left: _, seen } => {
+        Outcome::Part(next, _, seen) => {
             if wide(next) < s.len() {
                 return Whole::Refused(NO_RECORD);
             }

@@ -1,10 +1,19 @@
-// What one pass finds of a part of a record, and how the findings of its parts combine at each node.
-ghost use mathlib.Core.Path.{_≡_};
-ghost use mathlib.Core.Bool.{Bool, true, false};
+// What one pass finds of a part of a record, and how the moves of its parts combine at each node.
 ghost use Prim.Native.Nat.{_<_};
+ghost use mathlib.Core.Path.{_≡_};
 ghost use Rattle.moves.specs.Move.{overPrefix, overChoice, overParallel, overRestriction};
 ghost use Rattle.ccsk.specs.Term.{Co, On};
 ghost use Rattle.survey.specs.Seen.{moveOf, choiceOf, mayOf, Tells};
+
+// Labels (01, The record): tau, the greatest name, and what a co-name adds to its name; as an action that sum alone is none.
+const TAU: u8 = 0;
+
+const LAST_NAME: u8 = 127;
+
+const CO: u8 = 128;
+
+// The key of a prefix that is not done.
+pub const NOT_DONE: u16 = 0;
 
 // The chosen prefixes of a part: none is there; all that are there step together, with this label; or they do not.
 pub enum Move {
@@ -13,7 +22,8 @@ pub enum Move {
     Stuck,
 }
 
-// A step that is asked about: an undo of the key, or a forward step with it at the node p, or at p and q if q is not 0.
+// A step that is asked about. If `undo` holds, the undo of the key, and p and q say nothing; if not, the forward step
+// with the key at the node p, or at the nodes p and q if q is not 0.
 pub struct Ask {
     pub undo: bool,
     pub p: u16,
@@ -21,8 +31,8 @@ pub struct Ask {
     pub key: u16,
 }
 
-// Of a part: whether a prefix holds a key, whether the key asked about stands there, how many chosen prefixes it has,
-// where the bytes of the first two begin, and their move.
+// What is found of a part: whether a prefix of it holds a key, whether one holds the key asked about, how many of its
+// prefixes are chosen, where the bytes of the first two begin (0 where there is none), and their move.
 pub struct Seen {
     pub any: bool,
     pub stands: bool,
@@ -47,7 +57,7 @@ pub fn narrow(x: usize) -> u16
     x as u16
 }
 
-// Whether a prefix at node n with this key is chosen.
+// Whether the prefix at node n with this key is one that the step asked about takes.
 pub fn is_chosen(ask: Ask, n: u16, key: u16) -> bool
     ensures { λ r. ⌜ r ≡ choiceOf ask n key ⌝ }
 {
@@ -70,10 +80,10 @@ pub fn may_step(ask: Ask, key: u16) -> bool
     if ask.undo {
         return true;
     }
-    key == 0
+    key == NOT_DONE
 }
 
-// The move of a prefix, from the move below it.
+// The move of a prefix, from whether it is chosen, may step and is done, whether a key stands below it, and the move below it.
 pub fn over_prefix(chosen: bool, may: bool, done: bool, any: bool, action: u8, below: Move) -> Move
     ensures { λ r. ⌜ moveOf r ≡ overPrefix chosen may done any action (moveOf below) ⌝ }
 {
@@ -107,32 +117,32 @@ pub fn over_prefix(chosen: bool, may: bool, done: bool, any: bool, action: u8, b
 pub fn complementary(l: u8, k: u8) -> bool
     ensures { λ r. ⌜ Tells r (Co l k) ⌝ }
 {
-    if l == 0 {
+    if l == TAU {
         return false;
     }
-    if l < 128 {
-        return k == l + 128;
+    if l < CO {
+        return k == l + CO;
     }
-    if l == 128 {
+    if l == CO {
         return false;
     }
-    k == l - 128
+    k == l - CO
 }
 
-// Whether the label is the name or its co-name.
+// Whether the label is this name or its co-name. What is no name has no label on it.
 pub fn is_on(name: u8, l: u8) -> bool
     ensures { λ r. ⌜ Tells r (On name l) ⌝ }
 {
     if name == 0 {
         return false;
     }
-    if 127 < name {
+    if LAST_NAME < name {
         return false;
     }
     if l == name {
         return true;
     }
-    l == name + 128
+    l == name + CO
 }
 
 // The move of a choice, from whether each side holds a key and the moves of the sides.
@@ -174,11 +184,11 @@ pub fn over_parallel(left: Move, right: Move) -> Move
             Move::Still => Move::Step(l),
             Move::Step(k) => {
                 if complementary(l, k) {
-                    return Move::Step(0);
+                    return Move::Step(TAU);
                 }
                 Move::Stuck
             }
-            Move::Stuck => Move::Stuck,
+            Move::Stuck => Move::Stuck, // no half goes alone
         },
         Move::Stuck => Move::Stuck,
     }
