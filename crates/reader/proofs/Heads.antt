@@ -1,5 +1,5 @@
 -- One node without its children, against the reading of a node.
-use mathlib.Core.Path.{_≡_, refl, ap, sym, subst, _∙_}
+use mathlib.Core.Path.{_≡_, refl, sym, subst, _∙_}
 use mathlib.Core.List.{List, [], _∷_}
 use Prim.Native.Nat.{ℕ, zero, suc, _+_, _-_, _<_, _≤_}
 use native.Mathlib.Nat.{add-zero}
@@ -8,7 +8,7 @@ use native.Mathlib.Omega.{arith}
 use borrow.Author.Tests.{ne-eqb, eq-eqb, le-leb, lt-leb}
 use lib.ListN.{length, drop, getD, length-drop}
 use lib.Seq.{getD-drop, drop-drop, drop-cons}
-use Rattle.format.specs.Read.{Reading, refused, term, kindOf, node}
+use Rattle.format.specs.Read.{Reading, refused, kindOf, node}
 use Rattle.reader.specs.declared.Head.{Head}
 use Rattle.reader.specs.declared.Head.the-variants.{Bad, Node}
 use Rattle.reader.specs.Head.{body, childCount, under, NodeAt, NoNodeAt, Headed}

@@ -8,7 +8,7 @@ use native.Mathlib.Omega.{arith}
 use lib.ListN.{length, drop, getD, drop-of-length-le, length-append}
 use lib.Seq.{drop-cons}
 use Rattle.ccsk.specs.Term.{Term, nil, pre, cho, par, res, size}
-use Rattle.format.specs.Read.{Reading, refused, term, kindOf, keyOf, node, read}
+use Rattle.format.specs.Read.{refused, kindOf, keyOf, node, read}
 use Rattle.format.specs.Encode.{encode}
 use Rattle.reader.specs.Head.{body, childCount, under, NodeAt, NoNodeAt}
 use Rattle.reader.specs.Walk.{Stops, Walks, Walked}

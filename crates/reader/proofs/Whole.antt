@@ -1,14 +1,14 @@
 -- A whole record: what the reading of its first term says of all its bytes.
-use mathlib.Core.Path.{_≡_, refl, ap, sym, subst, _∙_}
-use mathlib.Core.List.{List, [], _∷_}
-use Prim.Native.Nat.{ℕ, _+_, _-_, _<_, _≤_}
+use mathlib.Core.Path.{_≡_, subst}
+use mathlib.Core.List.{List}
+use Prim.Native.Nat.{ℕ, _-_, _<_, _≤_}
 use native.Mathlib.Omega.{arith}
-use lib.ListN.{length, drop, getD, drop-of-length-le}
+use lib.ListN.{length, drop-of-length-le}
 use lib.Seq.{drop-cons}
 use Rattle.ccsk.specs.Term.{Term, size}
 use Rattle.format.specs.Limits.{node-limit, depth-limit}
-use Rattle.format.specs.Read.{read, finish, decode, Reads, Refuses}
-use Rattle.operations.specs.Ask.{ReadRecord, unreadable, done}
+use Rattle.format.specs.Read.{finish, decode, Reads, Refuses}
+use Rattle.operations.specs.Ask.{ReadRecord, done}
 use Rattle.reader.specs.Walk.{Stops, Walks, Walked}
 use Rattle.reader.specs.declared.Walk.{Walk}
 use Rattle.reader.specs.declared.Walk.the-variants as found
