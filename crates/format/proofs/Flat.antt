@@ -1,12 +1,13 @@
 -- A record without recursion: the terms that are due at a place, and what one node leaves due. A plain loop goes from node to node by these laws.
-use mathlib.Core.Path.{_≡_, refl, sym, ap, subst, _∙_}
-use mathlib.Core.Logic.{_≢_}
+use mathlib.Core.Path.{_≡_, refl, sym, ap, _∙_}
+use mathlib.Core.Bool.{cond}
 use mathlib.Core.List.{List, [], _∷_, _++_, append-assoc, append-nil}
 use Prim.Native.Nat.{ℕ, zero, suc, _+_, _≤_, _<_}
 use native.Mathlib.Omega.{arith}
+use lib.Dec.{eqb}
 use lib.ListN.{length, getD, drop, length-drop, length-append}
 use lib.Seq.{getD-drop, drop-drop, drop-append-seam}
-use Rattle.ccsk.specs.Term.{Term, Key, nil, pre, cho, par, res, keys, done, size}
+use Rattle.ccsk.specs.Term.{Term, Key, nil, pre, cho, par, res, keys, done}
 use Rattle.format.specs.Read.{keyOf}
 use Rattle.format.specs.Encode.{encode, high, low}
 use Rattle.format.proofs.Round.{key-bytes}
@@ -41,14 +42,17 @@ childCount kind = getD (0 ∷ 1 ∷ 2 ∷ 2 ∷ 1 ∷ []) kind 0
 abbrev pub Due : List ℕ → ℕ → List Term → Type 0
 Due s at ts = drop at s ≡ encodes ts
 
--- The first node of the terms that are due at a place: its kind, its end, what is due then, and its key if it is a prefix.
+-- the key of the node at a place, by its bytes; 0 if it is no prefix
+abbrev pub keyAt : List ℕ → ℕ → Key
+keyAt s at = cond (eqb (getD s at 0) 1) (keyOf (getD s (at + 2) 0) (getD s (at + 3) 0)) 0
+
+-- The first node of the terms that are due at a place: its kind, its end, what is due then, and its key.
 pub record FirstNode (s : List ℕ) (at : ℕ) (ts : List Term) : Type 0 where
   pub known : getD s at 0 < 5
   pub within : at + 1 + bodyLength (getD s at 0) ≤ length s
   pub rest : Due s (at + 1 + bodyLength (getD s at 0)) (after ts)
   pub children : length (after ts) + 1 ≡ length ts + childCount (getD s at 0)
-  pub key : getD s at 0 ≡ 1 → keysOf ts ≡ done (keyOf (getD s (at + 2) 0) (getD s (at + 3) 0)) [] ++ keysOf (after ts)
-  pub no-key : getD s at 0 ≢ 1 → keysOf ts ≡ keysOf (after ts)
+  pub key : keysOf ts ≡ done (keyAt s at) [] ++ keysOf (after ts)
 
 -- a byte of what is due
 byte-at : (s : List ℕ) (at i : ℕ) (l : List ℕ) → drop at s ≡ l → getD s (at + i) 0 ≡ getD l i 0
@@ -65,19 +69,18 @@ done-append (suc k) l m = refl
 module _ (s : List ℕ) (at : ℕ) (ts : List Term) (h : at < length s) where
   node-of : (b : ℕ) (x l : List ℕ) → b < 5 → bodyLength b ≡ length x → drop at s ≡ b ∷ (x ++ l) → l ≡ encodes (after ts)
       → length (after ts) + 1 ≡ length ts + childCount b
-      → (b ≡ 1 → keysOf ts ≡ done (keyOf (getD (x ++ l) 1 0) (getD (x ++ l) 2 0)) [] ++ keysOf (after ts))
-      → (b ≢ 1 → keysOf ts ≡ keysOf (after ts)) → FirstNode s at ts
-  node-of b x l five q e r m k n = record {
+      → keysOf ts ≡ done (cond (eqb b 1) (keyOf (getD (x ++ l) 1 0) (getD (x ++ l) 2 0)) 0) [] ++ keysOf (after ts) → FirstNode s at ts
+  node-of b x l five q e r m k = record {
     known = rw kind five;
     within = rw (kind, q) (omega (arith, length-drop at s, ap length e, length-append x l));
     rest = rw (kind, q) (rest ∙ r);
     children = rw kind m;
-    key = λ z. k (sym kind ∙ z) ∙ rw (byte-at s at 2 _ e, byte-at s at 3 _ e);
-    no-key = λ z. n (λ w. z (kind ∙ w))
+    key = rw (kind, byte-at s at 2 (b ∷ (x ++ l)) e, byte-at s at 3 (b ∷ (x ++ l)) e) k;
   }
     where
       kind : getD s at 0 ≡ b
       kind = let z : at + 0 ≡ at = omega arith in rw z at (byte-at s at 0 (b ∷ (x ++ l)) e)
+
       rest : drop (at + 1 + length x) s ≡ l
       rest = let z : at + 1 + length x ≡ at + suc (length x) = omega arith in rw z (past s at (suc (length x)) (b ∷ (x ++ l)) e ∙ drop-append-seam x l)
 
@@ -85,18 +88,18 @@ module _ (s : List ℕ) (at : ℕ) (ts : List Term) (h : at < length s) where
 pub first-node : (s : List ℕ) (at : ℕ) (ts : List Term) → at < length s → Due s at ts → FirstNode s at ts
 unfolding encodes keysOf after encode keys
 first-node s at [] h e = absurd (omega (arith, length-drop at s, ap length e))
-first-node s at (nil ∷ ts) h e = node-of s at (nil ∷ ts) h 0 [] (encodes ts) (omega arith) refl e refl (omega arith) (λ z. absurd (omega arith)) (λ z. refl)
+first-node s at (nil ∷ ts) h e = node-of s at (nil ∷ ts) h 0 [] (encodes ts) (omega arith) refl e refl (omega arith) refl
 first-node s at (pre a k t ∷ ts) h e =
     node-of s at (pre a k t ∷ ts) h 1 (a ∷ (high k ∷ (low k ∷ []))) (encode t ++ encodes ts) (omega arith) refl e refl (omega arith)
-    (λ z. rw (key-bytes k) (done-append k (keys t) (keysOf ts))) (λ z. absurd (z refl))
+    (rw (key-bytes k) (done-append k (keys t) (keysOf ts)))
 first-node s at (cho t u ∷ ts) h e =
     node-of s at (cho t u ∷ ts) h 2 [] (encode t ++ (encode u ++ encodes ts)) (omega arith) refl (e ∙ rw append-assoc) refl (omega arith)
-    (λ z. absurd (omega arith)) (λ z. rw append-assoc)
+    (rw append-assoc)
 first-node s at (par t u ∷ ts) h e =
     node-of s at (par t u ∷ ts) h 3 [] (encode t ++ (encode u ++ encodes ts)) (omega arith) refl (e ∙ rw append-assoc) refl (omega arith)
-    (λ z. absurd (omega arith)) (λ z. rw append-assoc)
+    (rw append-assoc)
 first-node s at (res a t ∷ ts) h e =
-    node-of s at (res a t ∷ ts) h 4 (a ∷ []) (encode t ++ encodes ts) (omega arith) refl e refl (omega arith) (λ z. absurd (omega arith)) (λ z. refl)
+    node-of s at (res a t ∷ ts) h 4 (a ∷ []) (encode t ++ encodes ts) (omega arith) refl e refl (omega arith) refl
 
 -- At the end nothing is due.
 pub none-due : (s : List ℕ) (at : ℕ) (ts : List Term) → length s ≤ at → Due s at ts → ts ≡ []
@@ -120,3 +123,7 @@ keys-one t = append-nil (keys t)
 pub keys-none : keysOf [] ≡ []
 unfolding keysOf
 keys-none = refl
+
+-- a prefix has its key's two bytes within the record
+pub key-within : (s : List ℕ) (at : ℕ) (ts : List Term) → FirstNode s at ts → getD s at 0 ≡ 1 → at + 3 < length s
+key-within s at ts f e = omega (arith, rw e at (f .within))

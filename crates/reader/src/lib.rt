@@ -23,9 +23,9 @@ pub const PARALLEL: usize = 3;
 
 pub const RESTRICTION: usize = 4;
 
-const BODY: [usize; 5] = [0, 3, 0, 0, 1];
+pub const BODY: [usize; 5] = [0, 3, 0, 0, 1];
 
-const CHILDREN: [usize; 5] = [0, 1, 2, 2, 1];
+pub const CHILDREN: [usize; 5] = [0, 1, 2, 2, 1];
 
 // The byte that is no action, and the greatest name.
 const NO_ACTION: u8 = 128;
