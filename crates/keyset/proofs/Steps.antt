@@ -12,7 +12,7 @@ use Rattle.keyset.specs.Set.{bit, power, member, added, Missing}
 use Rattle.keyset.proofs.Bits.{powers, power-table, power-pos, bit-div, bit-two, byte-fits}
 use Rattle.keyset.proofs.Sets.{added-old, added-new, full-member}
 
-true-false : _≡_ {A = Bool} true false → ⊥
+pub true-false : _≡_ {A = Bool} true false → ⊥
 true-false e = let z : _≡_ {A = ℕ} 0 1 = cc in omega arith
 
 pub divisor : (i : ℕ) → i < 8 → 0 < getD powers i 0

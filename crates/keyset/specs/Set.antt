@@ -1,10 +1,10 @@
 -- A set of numbers as a list of bytes: number k is bit k % 8 of byte k / 8.
 use mathlib.Core.Path.{_≡_}
-use mathlib.Core.List.{List}
+use mathlib.Core.List.{List, [], _∷_, _++_}
 use mathlib.Core.Bool.{Bool, true, false, cond}
 use Prim.Native.Nat.{ℕ, zero, suc, _+_, _*_, _<_, _/_, _%_}
 use lib.Dec.{eqb}
-use lib.ListN.{getD, set}
+use lib.ListN.{length, getD, set, drop}
 
 -- bit i of a number: halved i times, is it odd?
 unfoldable pub bit : ℕ → ℕ → ℕ
@@ -32,3 +32,17 @@ Missing s = (k : ℕ) × (k < 65536) × (member s k ≡ false)
 pub record LeastMissing (s : List ℕ) (k : ℕ) : Type 0 where
   pub missing : member s k ≡ false
   pub least : (j : ℕ) → j < k → member s j ≡ true
+
+-- one number more at the end, if the test holds
+abbrev pub tick : Bool → ℕ → List ℕ → List ℕ
+tick true k l = l ++ (k ∷ [])
+tick false k l = l
+
+-- the numbers below k that are in the set, ascending
+unfoldable pub membersBelow : List ℕ → ℕ → List ℕ
+membersBelow s zero = []
+membersBelow s (suc k) = tick (member s k) k (membersBelow s k)
+
+-- The list stands at the front of the row, and what lies past it stayed as it was.
+abbrev pub Fronted : List ℕ → List ℕ → List ℕ → Type 0
+Fronted l row row′ = row′ ≡ l ++ drop (length l) row

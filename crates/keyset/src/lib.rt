@@ -1,12 +1,14 @@
 // A set of keys in a lent array: one bit a key. Helpers between crates; each asks that the array is whole.
 ghost use mathlib.Core.Path.{_≡_};
-ghost use Prim.Native.Nat.{_+_, _<_};
+ghost use Prim.Native.Nat.{_+_, _<_, _≤_};
 ghost use lib.Dec.{eqb};
 ghost use lib.ListN.{length};
-ghost use Rattle.keyset.specs.Set.{bit, power, member, added, Missing, LeastMissing};
+ghost use Rattle.keyset.specs.Set.{bit, power, member, added, Missing, LeastMissing, membersBelow, Fronted};
 
 // Every 16-bit key has a bit.
 pub const BYTES: usize = 8192;
+
+const KEYS: usize = 65536;
 
 // The value of each bit of a byte.
 const POWERS: [u8; 8] = [1, 2, 4, 8, 16, 32, 64, 128];
@@ -75,4 +77,49 @@ pub fn least_missing(marks: &[u8; BYTES]) -> u16
         k += 1;
     }
     k
+}
+
+// How many numbers the set has. Bytes with none are passed at once.
+pub fn size(marks: &[u8; BYTES]) -> usize
+    requires { ⌜ length (now marks) ≡ 8192 ⌝ }
+    ensures { λ r. ⌜ r ≡ length (membersBelow (now (marks .entry)) 65536) ⌝ }
+{
+    let mut k: usize = 0;
+    let mut n: usize = 0;
+    while k < KEYS {
+        if marks[k / 8] == 0 {
+            k = (k / 8 + 1) * 8;
+            continue;
+        }
+        if has(marks, k as u16) {
+            n += 1;
+            k += 1;
+            continue;
+        }
+        k += 1;
+    }
+    n
+}
+
+// Writes the numbers of the set to the front of a row, ascending; the caller has seen that the row is long enough.
+pub fn list(marks: &[u8; BYTES], row: &mut [u16])
+    requires { ⌜ length (now marks) ≡ 8192 ⌝ }
+    requires { ⌜ length (membersBelow (now marks) 65536) ≤ length (now row) ⌝ }
+    ensures { λ _. ⌜ Fronted (membersBelow (now (marks .entry)) 65536) (now (row .entry)) (now (row .exit)) ⌝ }
+{
+    let mut k: usize = 0;
+    let mut n: usize = 0;
+    while k < KEYS {
+        if marks[k / 8] == 0 {
+            k = (k / 8 + 1) * 8;
+            continue;
+        }
+        if has(marks, k as u16) {
+            row[n] = k as u16;
+            n += 1;
+            k += 1;
+            continue;
+        }
+        k += 1;
+    }
 }
