@@ -31,6 +31,23 @@ after (cho t u ∷ ts) = t ∷ (u ∷ ts)
 after (par t u ∷ ts) = t ∷ (u ∷ ts)
 after (res a t ∷ ts) = t ∷ ts
 
+-- the kind and the key of the first node; its key is 0 if it is no prefix
+unfoldable pub headKind : List Term → ℕ
+headKind [] = 0
+headKind (nil ∷ ts) = 0
+headKind (pre a k t ∷ ts) = 1
+headKind (cho t u ∷ ts) = 2
+headKind (par t u ∷ ts) = 3
+headKind (res a t ∷ ts) = 4
+
+unfoldable pub headKey : List Term → Key
+headKey [] = 0
+headKey (nil ∷ ts) = 0
+headKey (pre a k t ∷ ts) = k
+headKey (cho t u ∷ ts) = 0
+headKey (par t u ∷ ts) = 0
+headKey (res a t ∷ ts) = 0
+
 -- how many bytes a body has and how many children a node, by kind (01, The record)
 abbrev pub bodyLength : ℕ → ℕ
 bodyLength kind = getD (0 ∷ 3 ∷ 0 ∷ 0 ∷ 1 ∷ []) kind 0
@@ -51,8 +68,8 @@ pub record FirstNode (s : List ℕ) (at : ℕ) (ts : List Term) : Type 0 where
   pub known : getD s at 0 < 5
   pub within : at + 1 + bodyLength (getD s at 0) ≤ length s
   pub rest : Due s (at + 1 + bodyLength (getD s at 0)) (after ts)
-  pub children : length (after ts) + 1 ≡ length ts + childCount (getD s at 0)
-  pub key : keysOf ts ≡ done (keyAt s at) [] ++ keysOf (after ts)
+  pub kind : getD s at 0 ≡ headKind ts
+  pub key : keyAt s at ≡ headKey ts
 
 -- a byte of what is due
 byte-at : (s : List ℕ) (at i : ℕ) (l : List ℕ) → drop at s ≡ l → getD s (at + i) 0 ≡ getD l i 0
@@ -61,45 +78,59 @@ byte-at s at i l e = sym (getD-drop at s i 0) ∙ ap (λ (x : List ℕ). getD x 
 past : (s : List ℕ) (at n : ℕ) (l : List ℕ) → drop at s ≡ l → drop (at + n) s ≡ drop n l
 past s at n l e = sym (drop-drop n at s) ∙ ap (drop n) e
 
-done-append : (k : Key) (l m : List Key) → done k l ++ m ≡ done k [] ++ (l ++ m)
-done-append zero l m = refl
-done-append (suc k) l m = refl
-
 -- a node of kind b whose body is x, with l after it
 module _ (s : List ℕ) (at : ℕ) (ts : List Term) (h : at < length s) where
-  node-of : (b : ℕ) (x l : List ℕ) → b < 5 → bodyLength b ≡ length x → drop at s ≡ b ∷ (x ++ l) → l ≡ encodes (after ts)
-      → length (after ts) + 1 ≡ length ts + childCount b
-      → keysOf ts ≡ done (cond (eqb b 1) (keyOf (getD (x ++ l) 1 0) (getD (x ++ l) 2 0)) 0) [] ++ keysOf (after ts) → FirstNode s at ts
+  node-of : (b : ℕ) (x l : List ℕ) → b < 5 → bodyLength b ≡ length x → drop at s ≡ b ∷ (x ++ l) → l ≡ encodes (after ts) → b ≡ headKind ts
+      → cond (eqb b 1) (keyOf (getD (x ++ l) 1 0) (getD (x ++ l) 2 0)) 0 ≡ headKey ts → FirstNode s at ts
   node-of b x l five q e r m k = record {
     known = rw kind five;
     within = rw (kind, q) (omega (arith, length-drop at s, ap length e, length-append x l));
     rest = rw (kind, q) (rest ∙ r);
-    children = rw kind m;
-    key = rw (kind, byte-at s at 2 (b ∷ (x ++ l)) e, byte-at s at 3 (b ∷ (x ++ l)) e) k;
+    kind = kind ∙ m;
+    key = rw (kind, byte-at s at 2 (b ∷ (x ++ l)) e, byte-at s at 3 (b ∷ (x ++ l)) e) k
   }
     where
       kind : getD s at 0 ≡ b
       kind = let z : at + 0 ≡ at = omega arith in rw z at (byte-at s at 0 (b ∷ (x ++ l)) e)
-
       rest : drop (at + 1 + length x) s ≡ l
       rest = let z : at + 1 + length x ≡ at + suc (length x) = omega arith in rw z (past s at (suc (length x)) (b ∷ (x ++ l)) e ∙ drop-append-seam x l)
 
 -- Every place that is not the end has a first node.
 pub first-node : (s : List ℕ) (at : ℕ) (ts : List Term) → at < length s → Due s at ts → FirstNode s at ts
-unfolding encodes keysOf after encode keys
+unfolding encodes after encode headKind headKey
 first-node s at [] h e = absurd (omega (arith, length-drop at s, ap length e))
-first-node s at (nil ∷ ts) h e = node-of s at (nil ∷ ts) h 0 [] (encodes ts) (omega arith) refl e refl (omega arith) refl
+first-node s at (nil ∷ ts) h e = node-of s at (nil ∷ ts) h 0 [] (encodes ts) (omega arith) refl e refl refl refl
 first-node s at (pre a k t ∷ ts) h e =
-    node-of s at (pre a k t ∷ ts) h 1 (a ∷ (high k ∷ (low k ∷ []))) (encode t ++ encodes ts) (omega arith) refl e refl (omega arith)
-    (rw (key-bytes k) (done-append k (keys t) (keysOf ts)))
+    node-of s at (pre a k t ∷ ts) h 1 (a ∷ (high k ∷ (low k ∷ []))) (encode t ++ encodes ts) (omega arith) refl e refl refl (key-bytes k)
 first-node s at (cho t u ∷ ts) h e =
-    node-of s at (cho t u ∷ ts) h 2 [] (encode t ++ (encode u ++ encodes ts)) (omega arith) refl (e ∙ rw append-assoc) refl (omega arith)
-    (rw append-assoc)
+    node-of s at (cho t u ∷ ts) h 2 [] (encode t ++ (encode u ++ encodes ts)) (omega arith) refl (e ∙ rw append-assoc) refl refl refl
 first-node s at (par t u ∷ ts) h e =
-    node-of s at (par t u ∷ ts) h 3 [] (encode t ++ (encode u ++ encodes ts)) (omega arith) refl (e ∙ rw append-assoc) refl (omega arith)
-    (rw append-assoc)
-first-node s at (res a t ∷ ts) h e =
-    node-of s at (res a t ∷ ts) h 4 (a ∷ []) (encode t ++ encodes ts) (omega arith) refl e refl (omega arith) refl
+    node-of s at (par t u ∷ ts) h 3 [] (encode t ++ (encode u ++ encodes ts)) (omega arith) refl (e ∙ rw append-assoc) refl refl refl
+first-node s at (res a t ∷ ts) h e = node-of s at (res a t ∷ ts) h 4 (a ∷ []) (encode t ++ encodes ts) (omega arith) refl e refl refl refl
+
+done-append : (k : Key) (l m : List Key) → done k l ++ m ≡ done k [] ++ (l ++ m)
+done-append zero l m = refl
+done-append (suc k) l m = refl
+
+-- the first node's key stands first
+pub keys-head : (ts : List Term) → keysOf ts ≡ done (headKey ts) [] ++ keysOf (after ts)
+unfolding keysOf after headKey keys
+keys-head [] = refl
+keys-head (nil ∷ ts) = refl
+keys-head (pre a k t ∷ ts) = done-append k (keys t) (keysOf ts)
+keys-head (cho t u ∷ ts) = append-assoc (keys t) (keys u) (keysOf ts)
+keys-head (par t u ∷ ts) = append-assoc (keys t) (keys u) (keysOf ts)
+keys-head (res a t ∷ ts) = refl
+
+-- the first node's place is taken by its children
+pub children-due : (ts : List Term) → 0 < length ts → length (after ts) + 1 ≡ length ts + childCount (headKind ts)
+unfolding after headKind
+children-due [] h = absurd (omega arith)
+children-due (nil ∷ ts) h = omega arith
+children-due (pre a k t ∷ ts) h = omega arith
+children-due (cho t u ∷ ts) h = omega arith
+children-due (par t u ∷ ts) h = omega arith
+children-due (res a t ∷ ts) h = omega arith
 
 -- At the end nothing is due.
 pub none-due : (s : List ℕ) (at : ℕ) (ts : List Term) → length s ≤ at → Due s at ts → ts ≡ []

@@ -6,7 +6,7 @@ use native.Mathlib.Omega.{arith}
 use lib.ListN.{length, getD}
 use Rattle.ccsk.specs.Numbers.{distinct}
 use Rattle.ccsk.specs.Term.{Term, Key, keys, done}
-use Rattle.format.proofs.Flat.{Due, keysOf, after, bodyLength, keyAt, FirstNode, first-node, none-due, all-due, keys-one, keys-none}
+use Rattle.format.proofs.Flat.{Due, keysOf, after, bodyLength, keyAt, FirstNode, keys-head, first-node, none-due, all-due, keys-one, keys-none}
 use Rattle.keys.specs.Gather.{RecordOf, Readable, Holds, Marked, Scanned}
 
 -- Up to the place `at` of the record s, the keys were marked in m, and n of them are different.
@@ -53,7 +53,7 @@ module _ (s m : List ℕ) (at n : ℕ) (P : Passed s m at n) where
         terms = after (P .terms);
         due = f .rest;
         past = P .past ++ done k [];
-        all = rw (append-assoc, q, ← f .key) (P .all);
+        all = rw (append-assoc, q ∙ f .key, ← keys-head (P .terms)) (P .all);
         holds = w .0;
         count = omega (arith, w .1, P .count);
         few = omega (arith, P .few, M .one);

@@ -28,8 +28,8 @@ fn key_of(high: u8, low: u8) -> u16
     high as u16 * 256 + low as u16
 }
 
-// The key that the node at `at` holds; 0 if it is no prefix. The caller has seen that the node's bytes are there.
-fn key_at(bytes: &[u8], at: usize) -> u16
+// The key that the node at `at` holds; 0 if it is no prefix. A helper between crates: the caller has seen that the node's bytes are there.
+pub fn key_at(bytes: &[u8], at: usize) -> u16
     requires { ⌜ (at < length (now bytes)) × (getD (now bytes) at 0 ≡ 1 → at + 3 < length (now bytes)) ⌝ }
     ensures { λ r. ⌜ r ≡ keyAt (now (bytes .entry)) at ⌝ }
 {
@@ -39,8 +39,8 @@ fn key_at(bytes: &[u8], at: usize) -> u16
     0
 }
 
-// Puts a key into the set unless it is 0: how many more keys the set has then, 0 or 1.
-fn mark(marks: &mut [u8; BYTES], key: u16) -> usize
+// Puts a key into the set unless it is 0: how many more keys the set has then, 0 or 1. A helper between crates: the set's array is whole.
+pub fn mark(marks: &mut [u8; BYTES], key: u16) -> usize
     requires { ⌜ length (now marks) ≡ 8192 ⌝ }
     ensures { λ r. ⌜ Marked (now (marks .entry)) key (now (marks .exit)) r ⌝ }
 {
