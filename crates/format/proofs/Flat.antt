@@ -64,12 +64,12 @@ abbrev pub keyAt : List ℕ → ℕ → Key
 keyAt s at = cond (eqb (getD s at 0) 1) (keyOf (getD s (at + 2) 0) (getD s (at + 3) 0)) 0
 
 -- The first node of the terms that are due at a place: its kind, its end, what is due then, and its key.
-pub record FirstNode (s : List ℕ) (at : ℕ) (ts : List Term) : Type 0 where
-  pub known : getD s at 0 < 5
-  pub within : at + 1 + bodyLength (getD s at 0) ≤ length s
-  pub rest : Due s (at + 1 + bodyLength (getD s at 0)) (after ts)
-  pub kind : getD s at 0 ≡ headKind ts
-  pub key : keyAt s at ≡ headKey ts
+record FirstNode (s : List ℕ) (at : ℕ) (ts : List Term) : Type 0 where
+  known : getD s at 0 < 5
+  within : at + 1 + bodyLength (getD s at 0) ≤ length s
+  rest : Due s (at + 1 + bodyLength (getD s at 0)) (after ts)
+  kind : getD s at 0 ≡ headKind ts
+  key : keyAt s at ≡ headKey ts
 
 -- a byte of what is due
 byte-at : (s : List ℕ) (at i : ℕ) (l : List ℕ) → drop at s ≡ l → getD s (at + i) 0 ≡ getD l i 0
@@ -87,16 +87,17 @@ module _ (s : List ℕ) (at : ℕ) (ts : List Term) (h : at < length s) where
     within = rw (kind, q) (omega (arith, length-drop at s, ap length e, length-append x l));
     rest = rw (kind, q) (rest ∙ r);
     kind = kind ∙ m;
-    key = rw (kind, byte-at s at 2 (b ∷ (x ++ l)) e, byte-at s at 3 (b ∷ (x ++ l)) e) k
+    key = rw (kind, byte-at s at 2 (b ∷ (x ++ l)) e, byte-at s at 3 (b ∷ (x ++ l)) e) k;
   }
     where
       kind : getD s at 0 ≡ b
       kind = let z : at + 0 ≡ at = omega arith in rw z at (byte-at s at 0 (b ∷ (x ++ l)) e)
+
       rest : drop (at + 1 + length x) s ≡ l
       rest = let z : at + 1 + length x ≡ at + suc (length x) = omega arith in rw z (past s at (suc (length x)) (b ∷ (x ++ l)) e ∙ drop-append-seam x l)
 
 -- Every place that is not the end has a first node.
-pub first-node : (s : List ℕ) (at : ℕ) (ts : List Term) → at < length s → Due s at ts → FirstNode s at ts
+first-node : (s : List ℕ) (at : ℕ) (ts : List Term) → at < length s → Due s at ts → FirstNode s at ts
 unfolding encodes after encode headKind headKey
 first-node s at [] h e = absurd (omega (arith, length-drop at s, ap length e))
 first-node s at (nil ∷ ts) h e = node-of s at (nil ∷ ts) h 0 [] (encodes ts) (omega arith) refl e refl refl refl
@@ -155,6 +156,24 @@ pub keys-none : keysOf [] ≡ []
 unfolding keysOf
 keys-none = refl
 
--- a prefix has its key's two bytes within the record
-pub key-within : (s : List ℕ) (at : ℕ) (ts : List Term) → FirstNode s at ts → getD s at 0 ≡ 1 → at + 3 < length s
-key-within s at ts f e = omega (arith, rw e at (f .within))
+-- What a loop needs at a place that is not the end: the node's kind b is in the tables, its body and a prefix's key end within the record,
+-- its key is the first node's, and what is due after it.
+module _ (s : List ℕ) (at : ℕ) (ts : List Term) (d : Due s at ts) (h : at < length s) where
+  pub key-here : keyAt s at ≡ headKey ts
+  key-here = first-node s at ts h d .key
+
+  pub kind-here : getD s at 0 ≡ headKind ts
+  kind-here = first-node s at ts h d .kind
+
+  pub key-within : getD s at 0 ≡ 1 → at + 3 < length s
+  key-within e = omega (arith, rw e at (first-node s at ts h d .within))
+
+  module _ (b : ℕ) (e : b ≡ getD s at 0) where
+    pub kind-known : b < 5
+    kind-known = rw e (first-node s at ts h d .known)
+
+    pub ends-within : at + (1 + bodyLength b) ≤ length s
+    ends-within = rw e (omega (arith, first-node s at ts h d .within))
+
+    pub due-after : Due s (at + (1 + bodyLength b)) (after ts)
+    due-after = let z : at + (1 + bodyLength (getD s at 0)) ≡ at + 1 + bodyLength (getD s at 0) = omega arith in rw (e, z) (first-node s at ts h d .rest)

@@ -9,7 +9,7 @@ use lib.ListN.{length, getD, set, take, drop, length-set, length-drop}
 use lib.Seq.{take-add, drop-drop, getD-drop, drop-set-add, take-set-le, take-all}
 use Rattle.ccsk.specs.Term.{Term, nil, pre, cho, par, res, blank}
 use Rattle.format.specs.Encode.{encode}
-use Rattle.format.proofs.Flat.{Due, encodes, after, bodyLength, FirstNode, first-node, none-due, all-due}
+use Rattle.format.proofs.Flat.{Due, encodes, after, bodyLength, ends-within, none-due, all-due}
 use Rattle.keys.specs.Gather.{RecordOf, Readable, clearedAt, Cleared}
 
 -- the blank forms of several terms
@@ -80,16 +80,6 @@ start s R = record {
 }
 
 module _ (s₀ s : List ℕ) (at : ℕ) (P : Clearing s₀ s at) where
-  pub here : at < length s → FirstNode s at (P .terms)
-  here h = first-node s at (P .terms) h (P .due)
-
-  -- the node's kind is in the tables, and its body ends within the record
-  pub kind-known : at < length s → (b : ℕ) → b ≡ getD s at 0 → b < 5
-  kind-known h b e = rw e (here h .known)
-
-  pub ends-within : at < length s → (b : ℕ) → b ≡ getD s at 0 → at + (1 + bodyLength b) ≤ length s
-  ends-within h b e = rw e (omega (arith, here h .within))
-
   pub onward : (h : at < length s) (b : ℕ) → b ≡ getD s at 0 → (s′ : List ℕ) → s′ ≡ clearedAt s at → Clearing s₀ s′ (at + (1 + bodyLength b))
   onward h b e s′ q = rw q (record {
     of = P .of;
@@ -97,7 +87,7 @@ module _ (s₀ s : List ℕ) (at : ℕ) (P : Clearing s₀ s at) where
     terms = after (P .terms);
     due = sym (drop-drop n at (clearedAt s at)) ∙ rw (clear-drop s at) (parts .rest);
     front = rw (take-add at n (clearedAt s at), clear-take s at, clear-drop s at, append-assoc, parts .front) (P .front);
-    reach = rw (clear-length s at) (ends-within h b e);
+    reach = rw (clear-length s at) (ends-within s at (P .terms) (P .due) h b e);
     same = clear-length s at ∙ P .same;
   })
     where

@@ -6,7 +6,7 @@ use native.Mathlib.Omega.{arith}
 use lib.ListN.{length, getD}
 use Rattle.ccsk.specs.Numbers.{distinct}
 use Rattle.ccsk.specs.Term.{Term, Key, keys, done}
-use Rattle.format.proofs.Flat.{Due, keysOf, after, bodyLength, keyAt, FirstNode, keys-head, first-node, none-due, all-due, keys-one, keys-none}
+use Rattle.format.proofs.Flat.{Due, keysOf, after, bodyLength, keyAt, keys-head, key-here, ends-within, due-after, none-due, all-due, keys-one, keys-none}
 use Rattle.keys.specs.Gather.{RecordOf, Readable, Holds, Marked, Scanned}
 
 -- Up to the place `at` of the record s, the keys were marked in m, and n of them are different.
@@ -38,34 +38,22 @@ start s m R H = record {
 }
 
 module _ (s m : List ℕ) (at n : ℕ) (P : Passed s m at n) where
-  pub here : at < length s → FirstNode s at (P .terms)
-  here h = first-node s at (P .terms) h (P .due)
-
   pub onward : (h : at < length s) (k : Key) → k ≡ keyAt s at → (m′ : List ℕ) (r : ℕ) → Marked m k m′ r → (b : ℕ) → b ≡ getD s at 0
       → Passed s m′ (at + (1 + bodyLength b)) (n + r)
   onward h k q m′ r M b e =
-      let f = here h in
       let w = M .more (P .past) (P .holds) in
-      let z : at + (1 + bodyLength (getD s at 0)) ≡ at + 1 + bodyLength (getD s at 0) = omega arith in
-      rw (e, z) (record {
+      record {
         of = P .of;
         whole = P .whole;
         terms = after (P .terms);
-        due = f .rest;
+        due = due-after s at (P .terms) (P .due) h b e;
         past = P .past ++ done k [];
-        all = rw (append-assoc, q ∙ f .key, ← keys-head (P .terms)) (P .all);
+        all = rw (append-assoc, q ∙ key-here s at (P .terms) (P .due) h, ← keys-head (P .terms)) (P .all);
         holds = w .0;
         count = omega (arith, w .1, P .count);
         few = omega (arith, P .few, M .one);
-        reach = omega (arith, f .within);
-      })
-
-  -- the node's kind is in the tables, and its body ends within the record
-  pub kind-known : at < length s → (b : ℕ) → b ≡ getD s at 0 → b < 5
-  kind-known h b e = rw e (here h .known)
-
-  pub ends-within : at < length s → (b : ℕ) → b ≡ getD s at 0 → at + (1 + bodyLength b) ≤ length s
-  ends-within h b e = rw e (omega (arith, here h .within))
+        reach = ends-within s at (P .terms) (P .due) h b e;
+      }
 
   pub scanned : length s ≤ at → Scanned s m n
   scanned h =

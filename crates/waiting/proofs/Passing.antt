@@ -9,7 +9,7 @@ use lib.ListN.{length, getD, length-append, length-drop}
 use Rattle.ccsk.specs.Term.{Term, Key, nil, pre, cho, par, res, keys, done}
 use Rattle.ccsk.proofs.Lists.{without, without-append, without-same, without-other}
 use Rattle.format.specs.Encode.{encode}
-use Rattle.format.proofs.Flat.{Due, encodes, keysOf, after, headKind, headKey, bodyLength, childCount, keyAt, FirstNode, first-node, keys-head, children-due, none-due, all-due, keys-one}
+use Rattle.format.proofs.Flat.{Due, encodes, keysOf, after, headKind, headKey, bodyLength, childCount, keyAt, keys-head, key-here, kind-here, ends-within, due-after, children-due, none-due, all-due, keys-one}
 use Rattle.keys.specs.Gather.{RecordOf, Readable, Holds, Marked}
 use Rattle.waiting.specs.Below.{below, ToMark, DueAfter, MarkedBelow}
 use Rattle.waiting.proofs.Keys.{below-here, below-other}
@@ -101,20 +101,19 @@ pub record Under (s marks : List ℕ) (m at due : ℕ) : Type 0 where
 pub start : (s marks : List ℕ) (m : Key) → Readable s → Holds marks [] → Under s marks m 0 0
 unfolding keysOf belowOf without
 start s marks m R H = record {
-  of = R .0; whole = R .1; inside = []; outside = R .0 ∷ []; terms = all-due s (R .0) (R .1 .bytes); count = refl;
-  past = []; all = append-nil (below m (R .0)); holds = H; reach = omega arith
+  of = R .0;
+  whole = R .1;
+  inside = [];
+  outside = R .0 ∷ [];
+  terms = all-due s (R .0) (R .1 .bytes);
+  count = refl;
+  past = [];
+  all = append-nil (below m (R .0));
+  holds = H;
+  reach = omega arith;
 }
 
 module _ (s marks : List ℕ) (m at due : ℕ) (P : Under s marks m at due) where
-  pub here : at < length s → FirstNode s at (P .inside ++ P .outside)
-  here h = first-node s at (P .inside ++ P .outside) h (P .terms)
-
-  pub kind-known : at < length s → (b : ℕ) → b ≡ getD s at 0 → b < 5
-  kind-known h b e = rw e (here h .known)
-
-  pub ends-within : at < length s → (b : ℕ) → b ≡ getD s at 0 → at + (1 + bodyLength b) ≤ length s
-  ends-within h b e = rw e (omega (arith, here h .within))
-
   -- no more terms are due than bytes are left
   pub due-small : due ≤ length s
   due-small = omega (arith, P .count, length-append (P .inside) (P .outside), few (P .inside ++ P .outside), ap length (P .terms), length-drop at s)
@@ -127,45 +126,67 @@ module _ (s marks : List ℕ) (m at due : ℕ) (P : Under s marks m at due) wher
       w : Holds marks′ (without m (P .past) ++ done r [])
       w = M .more (without m (P .past)) (P .holds) .0
 
-      place : at + (1 + bodyLength b) ≡ at + 1 + bodyLength (getD s at 0)
-      place = rw e (omega arith)
-
       go : (ins : List Term) → Due s at (ins ++ P .outside) → due ≡ length ins → P .past ++ (keysOf ins ++ belowOf m (P .outside)) ≡ below m (P .of)
           → Under s marks′ m (at + (1 + bodyLength b)) d
       go [] t c a = pick (ℕ-discrete k m)
         where
-          f : FirstNode s at (P .outside)
-          f = first-node s at (P .outside) h t
+          key : k ≡ headKey (P .outside)
+          key = q ∙ key-here s at (P .outside) t h
+
+          next : Due s (at + (1 + bodyLength b)) (after (P .outside))
+          next = due-after s at (P .outside) t h b e
+
+          end : at + (1 + bodyLength b) ≤ length s
+          end = ends-within s at (P .outside) t h b e
 
           same : Holds marks′ (without m (P .past))
           same = rw (T .outside c, append-nil) at w
 
           pick : Dec (k ≡ m) → Under s marks′ m (at + (1 + bodyLength b)) d
           pick (yes z) =
-              let v = below-enter m (P .outside) p (sym (q ∙ f .key) ∙ z) in
-              rw place (record {
-                of = P .of; whole = P .whole; inside = v .0 ∷ []; outside = v .1; terms = rw (v .2) at (f .rest); count = D .enters c z;
-                past = P .past; all = rw (keys-one (v .0), ← v .3) a; holds = same; reach = f .within
-              })
-          pick (no z) = rw place (record {
-            of = P .of; whole = P .whole; inside = []; outside = after (P .outside); terms = f .rest; count = D .passes c z;
-            past = P .past; all = rw (← below-pass m (P .outside) (λ y. z (q ∙ f .key ∙ y))) a; holds = same; reach = f .within
-          })
+              let v = below-enter m (P .outside) p (sym key ∙ z) in
+              record {
+                of = P .of;
+                whole = P .whole;
+                inside = v .0 ∷ [];
+                outside = v .1;
+                terms = rw (v .2) at next;
+                count = D .enters c z;
+                past = P .past;
+                all = rw (keys-one (v .0), ← v .3) a;
+                holds = same;
+                reach = end;
+              }
+          pick (no z) = record {
+            of = P .of;
+            whole = P .whole;
+            inside = [];
+            outside = after (P .outside);
+            terms = next;
+            count = D .passes c z;
+            past = P .past;
+            all = rw (← below-pass m (P .outside) (λ y. z (key ∙ y))) a;
+            holds = same;
+            reach = end;
+          }
       go (u ∷ ins) t c a =
           let g = heads u ins (P .outside) in
-          let f = first-node s at ((u ∷ ins) ++ P .outside) h t in
-          let kind : b ≡ headKind (u ∷ ins) = e ∙ f .kind ∙ g .kind in
-          let key : k ≡ headKey (u ∷ ins) = q ∙ f .key ∙ g .key in
+          let kind : b ≡ headKind (u ∷ ins) = e ∙ kind-here s at ((u ∷ ins) ++ P .outside) t h ∙ g .kind in
+          let key : k ≡ headKey (u ∷ ins) = q ∙ key-here s at ((u ∷ ins) ++ P .outside) t h ∙ g .key in
           let first : keysOf (u ∷ ins) ≡ done k [] ++ keysOf (after (u ∷ ins)) = rw key (keys-head (u ∷ ins)) in
-          rw place (record {
-            of = P .of; whole = P .whole; inside = after (u ∷ ins); outside = P .outside; terms = rw (g .next) at (f .rest);
+          record {
+            of = P .of;
+            whole = P .whole;
+            inside = after (u ∷ ins);
+            outside = P .outside;
+            terms = rw (g .next) at (due-after s at ((u ∷ ins) ++ P .outside) t h b e);
             count = omega (arith, D .inside (omega arith), children-due (u ∷ ins) (omega arith), ap childCount kind);
             past = P .past ++ done k [];
             all = append-assoc (P .past) (done k []) (keysOf (after (u ∷ ins)) ++ belowOf m (P .outside))
                 ∙ ap (λ (l : List Key). P .past ++ l) (sym (append-assoc (done k []) (keysOf (after (u ∷ ins))) (belowOf m (P .outside))) ∙ ap (λ (l : List Key). l ++ belowOf m (P .outside)) (sym first)) ∙ a;
             holds = rw (without-append m (P .past) (done k []), marked-key due k m r p (omega arith) T) w;
-            reach = f .within
-          })
+            reach = ends-within s at ((u ∷ ins) ++ P .outside) t h b e;
+          }
 
   pub marked-below : length s ≤ at → MarkedBelow s m marks
   unfolding keysOf belowOf

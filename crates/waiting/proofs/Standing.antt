@@ -10,7 +10,7 @@ use Rattle.ccsk.specs.Numbers.{In}
 use Rattle.ccsk.specs.Term.{Term, Key, keys, done}
 use Rattle.ccsk.proofs.Lists.{in-left, in-right, in-either}
 use Rattle.ccsk.proofs.Keys.{has-in, in-has}
-use Rattle.format.proofs.Flat.{Due, keysOf, after, headKey, bodyLength, keyAt, FirstNode, first-node, keys-head, none-due, all-due, keys-one, keys-none}
+use Rattle.format.proofs.Flat.{Due, keysOf, after, headKey, bodyLength, keyAt, keys-head, key-here, ends-within, due-after, none-due, all-due, keys-one, keys-none}
 use Rattle.keys.specs.Gather.{RecordOf, Readable}
 use Rattle.waiting.specs.Below.{Stands}
 
@@ -27,8 +27,14 @@ pub record NotYet (s : List ℕ) (m at : ℕ) : Type 0 where
 
 pub start : (s : List ℕ) (m : Key) → Readable s → NotYet s m 0
 start s m R = record {
-  of = R .0; whole = R .1; terms = R .0 ∷ []; due = all-due s (R .0) (R .1 .bytes); past = []; all = keys-one (R .0);
-  absent = λ i. i; reach = omega arith
+  of = R .0;
+  whole = R .1;
+  terms = R .0 ∷ [];
+  due = all-due s (R .0) (R .1 .bytes);
+  past = [];
+  all = keys-one (R .0);
+  absent = λ i. i;
+  reach = omega arith;
 }
 
 -- a key above 0 stands in the list of itself alone
@@ -42,33 +48,25 @@ done-in m (suc k) (inl e) = sym e
 done-in m (suc k) (inr i) = absurd i
 
 module _ (s : List ℕ) (m at : ℕ) (P : NotYet s m at) where
-  pub here : at < length s → FirstNode s at (P .terms)
-  here h = first-node s at (P .terms) h (P .due)
-
-  pub kind-known : at < length s → (b : ℕ) → b ≡ getD s at 0 → b < 5
-  kind-known h b e = rw e (here h .known)
-
-  pub ends-within : at < length s → (b : ℕ) → b ≡ getD s at 0 → at + (1 + bodyLength b) ≤ length s
-  ends-within h b e = rw e (omega (arith, here h .within))
-
   pub found : at < length s → 0 < m → (k : Key) → k ≡ keyAt s at → k ≡ m → Stands s m true
   found h p k q e = (P .of, P .whole, in-has m (P .of) (subst (In m) (ap (λ (l : List Key). P .past ++ l) (sym (keys-head (P .terms))) ∙ P .all) stood) .1)
     where
       stood : In m (P .past ++ (done (headKey (P .terms)) [] ++ keysOf (after (P .terms))))
       stood =
           in-right m (P .past) (done (headKey (P .terms)) [] ++ keysOf (after (P .terms)))
-          (in-left m (done (headKey (P .terms)) []) (keysOf (after (P .terms))) (in-done m (headKey (P .terms)) p (sym (q ∙ here h .key) ∙ e)))
+          (in-left m (done (headKey (P .terms)) []) (keysOf (after (P .terms))) (in-done m (headKey (P .terms)) p (sym (q ∙ key-here s at (P .terms) (P .due) h) ∙ e)))
 
   pub onward : (h : at < length s) (k : Key) → k ≡ keyAt s at → (k ≡ m → ⊥) → (b : ℕ) → b ≡ getD s at 0 → NotYet s m (at + (1 + bodyLength b))
-  onward h k q n b e =
-      let f = here h in
-      let z : at + (1 + bodyLength (getD s at 0)) ≡ at + 1 + bodyLength (getD s at 0) = omega arith in
-      rw (e, z) (record {
-        of = P .of; whole = P .whole; terms = after (P .terms); due = f .rest; past = P .past ++ done k [];
-        all = rw (append-assoc, q ∙ f .key, ← keys-head (P .terms)) (P .all);
-        absent = λ i. ⊎-elim (P .absent) (λ j. n (done-in m k j)) (in-either m (P .past) (done k []) i);
-        reach = omega (arith, f .within)
-      })
+  onward h k q n b e = record {
+    of = P .of;
+    whole = P .whole;
+    terms = after (P .terms);
+    due = due-after s at (P .terms) (P .due) h b e;
+    past = P .past ++ done k [];
+    all = rw (append-assoc, q ∙ key-here s at (P .terms) (P .due) h, ← keys-head (P .terms)) (P .all);
+    absent = λ i. ⊎-elim (P .absent) (λ j. n (done-in m k j)) (in-either m (P .past) (done k []) i);
+    reach = ends-within s at (P .terms) (P .due) h b e;
+  }
 
   pub nowhere : length s ≤ at → 0 < m → Stands s m false
   nowhere h p =

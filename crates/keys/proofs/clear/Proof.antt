@@ -3,8 +3,8 @@ use borrow.Author.Needs.{needs}
 use native.Mathlib.Omega.{arith}
 use Prim.Native.Nat.{_-_}
 use lib.ListN.{length}
-use Rattle.format.proofs.Flat.{key-within}
-use Rattle.keys.proofs.Clearing.{Clearing, start, here, onward, kind-known, ends-within, cleared}
+use Rattle.format.proofs.Flat.{key-within, kind-known, ends-within}
+use Rattle.keys.proofs.Clearing.{Clearing, start, onward, cleared}
 use Rattle.keys.proofs.clear.Statement.{statement}
 use Rattle.keys.proofs.clear.Tie as tie
 
@@ -24,22 +24,22 @@ wide-requires : tie.Need-wide-requires Inv-loop μ-loop
 wide-requires c κs = search needs
 
 clear-at-requires : tie.Need-clear-at-requires Inv-loop μ-loop
-clear-at-requires c κs = (c .before .before .before .loop-test .taken, key-within (c .before .before .before .before .loop .bytes) (c .before .before .before .before .loop .at) (c .before .before .before .before .loop .inv .terms) (here (c .before .before .before .before .before .before .args .bytes .now) (c .before .before .before .before .loop .bytes) (c .before .before .before .before .loop .at) (c .before .before .before .before .loop .inv) (c .before .before .before .loop-test .taken)))
+clear-at-requires c κs = (c .before .before .before .loop-test .taken, key-within (c .before .before .before .before .loop .bytes) (c .before .before .before .before .loop .at) _ (c .before .before .before .before .loop .inv .due) (c .before .before .before .loop-test .taken))
 
 mul-at : tie.Need-mul-at Inv-loop μ-loop
-mul-at c = omega (arith, kind-known (c .before .before .before .before .before .before .before .before .before .args .bytes .now) (c .before .before .before .before .before .before .before .loop .bytes) (c .before .before .before .before .before .before .before .loop .at) (c .before .before .before .before .before .before .before .loop .inv) (c .before .before .before .before .before .before .loop-test .taken) (c .before .before .before .before .wide .result) (c .before .before .before .before .wide .ensures))
+mul-at c = omega (arith, kind-known (c .before .before .before .before .before .before .before .loop .bytes) (c .before .before .before .before .before .before .before .loop .at) _ (c .before .before .before .before .before .before .before .loop .inv .due) (c .before .before .before .before .before .before .loop-test .taken) (c .before .before .before .before .wide .result) (c .before .before .before .before .wide .ensures))
 
 array-read-at : tie.Need-array-read-at Inv-loop μ-loop
-array-read-at c = kind-known (c .before .before .before .before .before .before .before .before .before .args .bytes .now) (c .before .before .before .before .before .before .before .loop .bytes) (c .before .before .before .before .before .before .before .loop .at) (c .before .before .before .before .before .before .before .loop .inv) (c .before .before .before .before .before .before .loop-test .taken) (c .before .before .before .before .wide .result) (c .before .before .before .before .wide .ensures)
+array-read-at c = kind-known (c .before .before .before .before .before .before .before .loop .bytes) (c .before .before .before .before .before .before .before .loop .at) _ (c .before .before .before .before .before .before .before .loop .inv .due) (c .before .before .before .before .before .before .loop-test .taken) (c .before .before .before .before .wide .result) (c .before .before .before .before .wide .ensures)
 
 add-at : tie.Need-add-at Inv-loop μ-loop
-add-at c = omega (arith, ends-within (c .before .before .before .before .before .before .before .before .before .args .bytes .now) (c .before .before .before .before .before .before .before .loop .bytes) (c .before .before .before .before .before .before .before .loop .at) (c .before .before .before .before .before .before .before .loop .inv) (c .before .before .before .before .before .before .loop-test .taken) (c .before .before .before .before .wide .result) (c .before .before .before .before .wide .ensures))
+add-at c = omega (arith, ends-within (c .before .before .before .before .before .before .before .loop .bytes) (c .before .before .before .before .before .before .before .loop .at) _ (c .before .before .before .before .before .before .before .loop .inv .due) (c .before .before .before .before .before .before .loop-test .taken) (c .before .before .before .before .wide .result) (c .before .before .before .before .wide .ensures))
 
 add-at-2 : tie.Need-add-at-2 Inv-loop μ-loop
-add-at-2 c = omega (arith, ends-within (c .before .before .before .before .before .before .before .before .before .args .bytes .now) (c .before .before .before .before .before .before .before .loop .bytes) (c .before .before .before .before .before .before .before .loop .at) (c .before .before .before .before .before .before .before .loop .inv) (c .before .before .before .before .before .before .loop-test .taken) (c .before .before .before .before .wide .result) (c .before .before .before .before .wide .ensures))
+add-at-2 c = omega (arith, ends-within (c .before .before .before .before .before .before .before .loop .bytes) (c .before .before .before .before .before .before .before .loop .at) _ (c .before .before .before .before .before .before .before .loop .inv .due) (c .before .before .before .before .before .before .loop-test .taken) (c .before .before .before .before .wide .result) (c .before .before .before .before .wide .ensures))
 
 loop-less : tie.Need-loop-less Inv-loop μ-loop
-loop-less c = omega (arith, ends-within (c .before .before .before .before .before .before .before .before .before .args .bytes .now) (c .before .before .before .before .before .before .before .loop .bytes) (c .before .before .before .before .before .before .before .loop .at) (c .before .before .before .before .before .before .before .loop .inv) (c .before .before .before .before .before .before .loop-test .taken) (c .before .before .before .before .wide .result) (c .before .before .before .before .wide .ensures), c .before .before .clear-at .kept .0)
+loop-less c = omega (arith, ends-within (c .before .before .before .before .before .before .before .loop .bytes) (c .before .before .before .before .before .before .before .loop .at) _ (c .before .before .before .before .before .before .before .loop .inv .due) (c .before .before .before .before .before .before .loop-test .taken) (c .before .before .before .before .wide .result) (c .before .before .before .before .wide .ensures), c .before .before .clear-at .kept .0)
 
 loop-again : tie.Need-loop-again Inv-loop μ-loop
 loop-again c = onward (c .before .before .before .before .before .before .before .before .before .args .bytes .now) (c .before .before .before .before .before .before .before .loop .bytes) (c .before .before .before .before .before .before .before .loop .at) (c .before .before .before .before .before .before .before .loop .inv) (c .before .before .before .before .before .before .loop-test .taken) (c .before .before .before .before .wide .result) (c .before .before .before .before .wide .ensures) _ (c .before .before .clear-at .ensures)

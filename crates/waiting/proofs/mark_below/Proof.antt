@@ -3,8 +3,8 @@ use borrow.Author.Needs.{needs}
 use native.Mathlib.Omega.{arith}
 use Prim.Native.Nat.{_-_}
 use lib.ListN.{length}
-use Rattle.format.proofs.Flat.{key-within}
-use Rattle.waiting.proofs.Passing.{Under, start, here, onward, kind-known, ends-within, due-small, marked-below}
+use Rattle.format.proofs.Flat.{key-within, kind-known, ends-within}
+use Rattle.waiting.proofs.Passing.{Under, start, onward, due-small, marked-below}
 use Rattle.waiting.proofs.mark_below.Statement.{statement}
 use Rattle.waiting.proofs.mark_below.Tie as tie
 
@@ -24,7 +24,7 @@ wide-requires : tie.Need-wide-requires Inv-loop μ-loop
 wide-requires c κs = search needs
 
 key-at-requires : tie.Need-key-at-requires Inv-loop μ-loop
-key-at-requires c κs = (c .before .before .loop-test .taken, key-within (c .before .before .before .before .before .args .bytes .now) (c .before .before .before .loop .at) _ (here (c .before .before .before .before .before .args .bytes .now) (c .before .before .before .loop .marks) (c .before .before .before .before .before .args .key) (c .before .before .before .loop .at) (c .before .before .before .loop .due) (c .before .before .before .loop .inv) (c .before .before .loop-test .taken)))
+key-at-requires c κs = (c .before .before .loop-test .taken, key-within (c .before .before .before .before .before .args .bytes .now) (c .before .before .before .loop .at) _ (c .before .before .before .loop .inv .terms) (c .before .before .loop-test .taken))
 
 to-mark-requires : tie.Need-to-mark-requires Inv-loop μ-loop
 to-mark-requires c κs = search needs
@@ -33,22 +33,22 @@ mark-requires : tie.Need-mark-requires Inv-loop μ-loop
 mark-requires c κs = c .before .before .before .before .before .before .loop .inv .holds .whole
 
 due-after-requires : tie.Need-due-after-requires Inv-loop μ-loop
-due-after-requires c κs = (kind-known (c .before .before .before .before .before .before .before .before .before .args .bytes .now) (c .before .before .before .before .before .before .before .loop .marks) (c .before .before .before .before .before .before .before .before .before .args .key) (c .before .before .before .before .before .before .before .loop .at) (c .before .before .before .before .before .before .before .loop .due) (c .before .before .before .before .before .before .before .loop .inv) (c .before .before .before .before .before .before .loop-test .taken) (c .before .before .before .before .wide .result) (c .before .before .before .before .wide .ensures), omega (arith, due-small (c .before .before .before .before .before .before .before .before .before .args .bytes .now) (c .before .before .before .before .before .before .before .loop .marks) (c .before .before .before .before .before .before .before .before .before .args .key) (c .before .before .before .before .before .before .before .loop .at) (c .before .before .before .before .before .before .before .loop .due) (c .before .before .before .before .before .before .before .loop .inv), c .before .before .before .before .before .before .before .before .before .good .0 .1))
+due-after-requires c κs = (kind-known (c .before .before .before .before .before .before .before .before .before .args .bytes .now) (c .before .before .before .before .before .before .before .loop .at) _ (c .before .before .before .before .before .before .before .loop .inv .terms) (c .before .before .before .before .before .before .loop-test .taken) (c .before .before .before .before .wide .result) (c .before .before .before .before .wide .ensures), omega (arith, due-small (c .before .before .before .before .before .before .before .before .before .args .bytes .now) (c .before .before .before .before .before .before .before .loop .marks) (c .before .before .before .before .before .before .before .before .before .args .key) (c .before .before .before .before .before .before .before .loop .at) (c .before .before .before .before .before .before .before .loop .due) (c .before .before .before .before .before .before .before .loop .inv), c .before .before .before .before .before .before .before .before .before .good .0 .1))
 
 mul-at : tie.Need-mul-at Inv-loop μ-loop
-mul-at c = omega (arith, kind-known (c .before .before .before .before .before .before .before .before .before .before .args .bytes .now) (c .before .before .before .before .before .before .before .before .loop .marks) (c .before .before .before .before .before .before .before .before .before .before .args .key) (c .before .before .before .before .before .before .before .before .loop .at) (c .before .before .before .before .before .before .before .before .loop .due) (c .before .before .before .before .before .before .before .before .loop .inv) (c .before .before .before .before .before .before .before .loop-test .taken) (c .before .before .before .before .before .wide .result) (c .before .before .before .before .before .wide .ensures))
+mul-at c = omega (arith, kind-known (c .before .before .before .before .before .before .before .before .before .before .args .bytes .now) (c .before .before .before .before .before .before .before .before .loop .at) _ (c .before .before .before .before .before .before .before .before .loop .inv .terms) (c .before .before .before .before .before .before .before .loop-test .taken) (c .before .before .before .before .before .wide .result) (c .before .before .before .before .before .wide .ensures))
 
 array-read-at : tie.Need-array-read-at Inv-loop μ-loop
-array-read-at c = kind-known (c .before .before .before .before .before .before .before .before .before .before .args .bytes .now) (c .before .before .before .before .before .before .before .before .loop .marks) (c .before .before .before .before .before .before .before .before .before .before .args .key) (c .before .before .before .before .before .before .before .before .loop .at) (c .before .before .before .before .before .before .before .before .loop .due) (c .before .before .before .before .before .before .before .before .loop .inv) (c .before .before .before .before .before .before .before .loop-test .taken) (c .before .before .before .before .before .wide .result) (c .before .before .before .before .before .wide .ensures)
+array-read-at c = kind-known (c .before .before .before .before .before .before .before .before .before .before .args .bytes .now) (c .before .before .before .before .before .before .before .before .loop .at) _ (c .before .before .before .before .before .before .before .before .loop .inv .terms) (c .before .before .before .before .before .before .before .loop-test .taken) (c .before .before .before .before .before .wide .result) (c .before .before .before .before .before .wide .ensures)
 
 add-at : tie.Need-add-at Inv-loop μ-loop
-add-at c = omega (arith, ends-within (c .before .before .before .before .before .before .before .before .before .before .args .bytes .now) (c .before .before .before .before .before .before .before .before .loop .marks) (c .before .before .before .before .before .before .before .before .before .before .args .key) (c .before .before .before .before .before .before .before .before .loop .at) (c .before .before .before .before .before .before .before .before .loop .due) (c .before .before .before .before .before .before .before .before .loop .inv) (c .before .before .before .before .before .before .before .loop-test .taken) (c .before .before .before .before .before .wide .result) (c .before .before .before .before .before .wide .ensures))
+add-at c = omega (arith, ends-within (c .before .before .before .before .before .before .before .before .before .before .args .bytes .now) (c .before .before .before .before .before .before .before .before .loop .at) _ (c .before .before .before .before .before .before .before .before .loop .inv .terms) (c .before .before .before .before .before .before .before .loop-test .taken) (c .before .before .before .before .before .wide .result) (c .before .before .before .before .before .wide .ensures))
 
 add-at-2 : tie.Need-add-at-2 Inv-loop μ-loop
-add-at-2 c = omega (arith, ends-within (c .before .before .before .before .before .before .before .before .before .before .args .bytes .now) (c .before .before .before .before .before .before .before .before .loop .marks) (c .before .before .before .before .before .before .before .before .before .before .args .key) (c .before .before .before .before .before .before .before .before .loop .at) (c .before .before .before .before .before .before .before .before .loop .due) (c .before .before .before .before .before .before .before .before .loop .inv) (c .before .before .before .before .before .before .before .loop-test .taken) (c .before .before .before .before .before .wide .result) (c .before .before .before .before .before .wide .ensures))
+add-at-2 c = omega (arith, ends-within (c .before .before .before .before .before .before .before .before .before .before .args .bytes .now) (c .before .before .before .before .before .before .before .before .loop .at) _ (c .before .before .before .before .before .before .before .before .loop .inv .terms) (c .before .before .before .before .before .before .before .loop-test .taken) (c .before .before .before .before .before .wide .result) (c .before .before .before .before .before .wide .ensures))
 
 loop-less : tie.Need-loop-less Inv-loop μ-loop
-loop-less c = omega (arith, ends-within (c .before .before .before .before .before .before .before .before .before .before .args .bytes .now) (c .before .before .before .before .before .before .before .before .loop .marks) (c .before .before .before .before .before .before .before .before .before .before .args .key) (c .before .before .before .before .before .before .before .before .loop .at) (c .before .before .before .before .before .before .before .before .loop .due) (c .before .before .before .before .before .before .before .before .loop .inv) (c .before .before .before .before .before .before .before .loop-test .taken) (c .before .before .before .before .before .wide .result) (c .before .before .before .before .before .wide .ensures))
+loop-less c = omega (arith, ends-within (c .before .before .before .before .before .before .before .before .before .before .args .bytes .now) (c .before .before .before .before .before .before .before .before .loop .at) _ (c .before .before .before .before .before .before .before .before .loop .inv .terms) (c .before .before .before .before .before .before .before .loop-test .taken) (c .before .before .before .before .before .wide .result) (c .before .before .before .before .before .wide .ensures))
 
 loop-again : tie.Need-loop-again Inv-loop μ-loop
 loop-again c = onward (c .before .before .before .before .before .before .before .before .before .before .args .bytes .now) (c .before .before .before .before .before .before .before .before .loop .marks) (c .before .before .before .before .before .before .before .before .before .before .args .key) (c .before .before .before .before .before .before .before .before .loop .at) (c .before .before .before .before .before .before .before .before .loop .due) (c .before .before .before .before .before .before .before .before .loop .inv) (c .before .before .before .before .before .before .before .loop-test .taken) (c .before .before .before .before .before .before .before .before .before .before .pre .1 .0) (c .before .before .before .before .key-at .result) (c .before .before .before .before .key-at .ensures) (c .before .before .to-mark .result) (c .before .before .to-mark .ensures) _ _ (c .before .mark .ensures) (c .before .before .before .before .before .wide .result) (c .before .before .before .before .before .wide .ensures) (c .due-after .result) (c .due-after .ensures)
