@@ -1,0 +1,74 @@
+-- `scan` meets its contract: at each node the keys passed so far are marked and counted, by the laws of Passing.
+use borrow.Author.Needs.{needs}
+use native.Mathlib.Omega.{arith}
+use Prim.Native.Nat.{_-_}
+use lib.ListN.{length}
+use Rattle.format.proofs.Flat.{key-within, kind-known, ends-within}
+use Rattle.keys.proofs.Passing.{Passed, start, onward, scanned}
+use Rattle.keys.proofs.scan.Statement.{statement}
+use Rattle.keys.proofs.scan.Tie as tie
+
+abbrev Inv-loop : tie.InvT-loop
+Inv-loop bytes marks₀ at₀ n₀ marks at n = Passed bytes marks at n
+
+abbrev μ-loop : tie.MeasureT-loop
+μ-loop bytes marks₀ at₀ n₀ marks at n = length bytes - at
+
+loop-holds : tie.Need-loop-holds Inv-loop μ-loop
+loop-holds c = start (c .before .args .bytes .now) (c .before .args .marks .now) (c .before .pre .0) (c .before .pre .1)
+
+key-at-requires : tie.Need-key-at-requires Inv-loop μ-loop
+key-at-requires c κs = (c .before .loop-test .taken, key-within (c .before .before .before .before .args .bytes .now) (c .before .before .loop .at) _ (c .before .before .loop .inv .due) (c .before .loop-test .taken))
+
+mark-requires : tie.Need-mark-requires Inv-loop μ-loop
+mark-requires c κs = c .before .before .before .loop .inv .holds .whole
+
+add-n : tie.Need-add-n Inv-loop μ-loop
+add-n c = omega (arith, c .before .before .before .before .loop .inv .few, c .mark .ensures .one)
+
+shared-slice-read-wide : tie.Need-shared-slice-read-wide Inv-loop μ-loop
+shared-slice-read-wide c = search needs
+
+wide-requires : tie.Need-wide-requires Inv-loop μ-loop
+wide-requires c κs = search needs
+
+mul-at : tie.Need-mul-at Inv-loop μ-loop
+mul-at c = omega (arith, kind-known (c .before .before .before .before .before .before .before .before .args .bytes .now) (c .before .before .before .before .before .before .loop .at) _ (c .before .before .before .before .before .before .loop .inv .due) (c .before .before .before .before .before .loop-test .taken) (c .wide .result) (c .wide .ensures))
+
+array-read-at : tie.Need-array-read-at Inv-loop μ-loop
+array-read-at c = kind-known (c .before .before .before .before .before .before .before .before .args .bytes .now) (c .before .before .before .before .before .before .loop .at) _ (c .before .before .before .before .before .before .loop .inv .due) (c .before .before .before .before .before .loop-test .taken) (c .wide .result) (c .wide .ensures)
+
+add-at : tie.Need-add-at Inv-loop μ-loop
+add-at c = omega (arith, ends-within (c .before .before .before .before .before .before .before .before .args .bytes .now) (c .before .before .before .before .before .before .loop .at) _ (c .before .before .before .before .before .before .loop .inv .due) (c .before .before .before .before .before .loop-test .taken) (c .wide .result) (c .wide .ensures))
+
+add-at-2 : tie.Need-add-at-2 Inv-loop μ-loop
+add-at-2 c = omega (arith, ends-within (c .before .before .before .before .before .before .before .before .args .bytes .now) (c .before .before .before .before .before .before .loop .at) _ (c .before .before .before .before .before .before .loop .inv .due) (c .before .before .before .before .before .loop-test .taken) (c .wide .result) (c .wide .ensures))
+
+loop-less : tie.Need-loop-less Inv-loop μ-loop
+loop-less c = omega (arith, ends-within (c .before .before .before .before .before .before .before .before .args .bytes .now) (c .before .before .before .before .before .before .loop .at) _ (c .before .before .before .before .before .before .loop .inv .due) (c .before .before .before .before .before .loop-test .taken) (c .wide .result) (c .wide .ensures))
+
+loop-again : tie.Need-loop-again Inv-loop μ-loop
+loop-again c = onward (c .before .before .before .before .before .before .before .before .args .bytes .now) (c .before .before .before .before .before .before .loop .marks) (c .before .before .before .before .before .before .loop .at) (c .before .before .before .before .before .before .loop .n) (c .before .before .before .before .before .before .loop .inv) (c .before .before .before .before .before .loop-test .taken) (c .before .before .before .key-at .result) (c .before .before .before .key-at .ensures) _ (c .before .before .mark .result) (c .before .before .mark .ensures) (c .wide .result) (c .wide .ensures)
+
+returns : tie.Need-returns Inv-loop μ-loop
+returns c = scanned (c .before .before .before .args .bytes .now) (c .before .loop .marks) (c .before .loop .at) (c .before .loop .n) (c .before .loop .inv) (c .loop-test .left)
+
+pub scan-spec : {M : Type 1} → statement M
+scan-spec =
+    tie.close
+    (tie.spec
+    Inv-loop
+    μ-loop
+    loop-holds
+    key-at-requires
+    mark-requires
+    add-n
+    shared-slice-read-wide
+    wide-requires
+    mul-at
+    array-read-at
+    add-at
+    add-at-2
+    loop-less
+    loop-again
+    returns)

@@ -1,0 +1,142 @@
+// Operations on the keys of a record (01, Operations and their refusals): how many different ones, the least free one, the blank form.
+ghost use mathlib.Core.Path.{_≡_};
+ghost use mathlib.Core.List.{[]};
+ghost use Prim.Native.Nat.{_+_, _<_};
+ghost use lib.ListN.{length, getD};
+ghost use Rattle.format.specs.Read.{keyOf};
+ghost use Rattle.format.proofs.Flat.{keyAt};
+ghost use Rattle.operations.specs.Ask.{KeyCount, FreeKey};
+ghost use Rattle.operations.specs.Change.{BlankForm};
+ghost use Rattle.keys.specs.Number.{refusal, value};
+ghost use Rattle.keys.specs.Gather.{Readable, Holds, Marked, Scanned, Gathered, clearedAt, Cleared};
+use keyset::BYTES;
+use reader::Count;
+
+// The kind of a prefix, as a byte.
+const PREFIX: u8 = reader::PREFIX as u8;
+
+// An answer that is a number: the refusal, or the number.
+pub enum Number {
+    Refused(u8),
+    Is(usize),
+}
+
+// A key from its two bytes.
+fn key_of(high: u8, low: u8) -> u16
+    ensures { λ r. ⌜ r ≡ keyOf high low ⌝ }
+{
+    high as u16 * 256 + low as u16
+}
+
+// The key that the node at `at` holds; 0 if it is no prefix. A helper between crates: the caller has seen that the node's bytes are there.
+pub fn key_at(bytes: &[u8], at: usize) -> u16
+    requires { ⌜ (at < length (now bytes)) × (getD (now bytes) at 0 ≡ 1 → at + 3 < length (now bytes)) ⌝ }
+    ensures { λ r. ⌜ r ≡ keyAt (now (bytes .entry)) at ⌝ }
+{
+    if bytes[at] == PREFIX {
+        return key_of(bytes[at + 2], bytes[at + 3]);
+    }
+    0
+}
+
+// Puts a key into the set unless it is 0: how many more keys the set has then, 0 or 1. A helper between crates: the set's array is whole.
+pub fn mark(marks: &mut [u8; BYTES], key: u16) -> usize
+    requires { ⌜ length (now marks) ≡ 8192 ⌝ }
+    ensures { λ r. ⌜ Marked (now (marks .entry)) key (now (marks .exit)) r ⌝ }
+{
+    if key == 0 {
+        return 0;
+    }
+    if keyset::has(marks, key) {
+        return 0;
+    }
+    keyset::add(marks, key);
+    1
+}
+
+// Marks the keys of a readable record in an empty set: how many different ones there are.
+fn scan(bytes: &[u8], marks: &mut [u8; BYTES]) -> usize
+    requires { ⌜ Readable (now bytes) ⌝ }
+    requires { ⌜ Holds (now marks) [] ⌝ }
+    ensures { λ r. ⌜ Scanned (now (bytes .entry)) (now (marks .exit)) r ⌝ }
+{
+    let mut at: usize = 0;
+    let mut n: usize = 0;
+    while at < bytes.len() {
+        n += mark(marks, key_at(bytes, at));
+        at += 1 + reader::body_length(reader::wide(bytes[at]));
+    }
+    n
+}
+
+// Reads the record and marks its keys in an empty set: the refusal, or how many different ones there are.
+fn gather(bytes: &[u8], marks: &mut [u8; BYTES]) -> Number
+    requires { ⌜ Holds (now marks) [] ⌝ }
+    ensures { λ r. ⌜ Gathered (now (bytes .entry)) (now (marks .exit)) r ⌝ }
+{
+    match reader::read(bytes) {
+        Count::Refused(c) => Number::Refused(c),
+        Count::Nodes(_) => Number::Is(scan(bytes, marks)),
+    }
+}
+
+// The number of distinct keys of the record.
+pub fn count(bytes: &[u8]) -> Number
+    ensures { λ r. ⌜ KeyCount (now (bytes .entry)) (refusal r) (value r) ⌝ }
+{
+    let mut marks = [0u8; BYTES];
+    gather(bytes, &mut marks)
+}
+
+// The least key that stands nowhere in the record. In the set of its keys and 0, it is the least number that is missing.
+pub fn least_free(bytes: &[u8]) -> Number
+    ensures { λ r. ⌜ FreeKey (now (bytes .entry)) (refusal r) (value r) ⌝ }
+{
+    let mut marks = [0u8; BYTES];
+    match gather(bytes, &mut marks) {
+        Number::Refused(c) => Number::Refused(c),
+        Number::Is(_) => {
+            keyset::add(&mut marks, 0);
+            let key = keyset::least_missing(&marks);
+            Number::Is(key as usize)
+        }
+    }
+}
+
+// Key 0 at the node at `at`, if it is a prefix. The caller has seen that the node's bytes are there.
+fn clear_at(bytes: &mut [u8], at: usize)
+    requires { ⌜ (at < length (now bytes)) × (getD (now bytes) at 0 ≡ 1 → at + 3 < length (now bytes)) ⌝ }
+    ensures { λ _. ⌜ now (bytes .exit) ≡ clearedAt (now (bytes .entry)) at ⌝ }
+{
+    if bytes[at] == PREFIX {
+        bytes[at + 2] = 0;
+        bytes[at + 3] = 0;
+    }
+}
+
+// Key 0 at every prefix of a readable record.
+fn clear(bytes: &mut [u8])
+    requires { ⌜ Readable (now bytes) ⌝ }
+    ensures { λ _. ⌜ Cleared (now (bytes .entry)) (now (bytes .exit)) ⌝ }
+{
+    let mut at: usize = 0;
+    while at < bytes.len() {
+        let kind = reader::wide(bytes[at]);
+        clear_at(bytes, at);
+        at += 1 + reader::body_length(kind);
+    }
+}
+
+// The blank form: every key becomes 0. Answers how many distinct keys that removed.
+pub fn blank(bytes: &mut [u8]) -> Number
+    ensures { λ r. ⌜ BlankForm (now (bytes .entry)) (refusal r) (value r) (now (bytes .exit)) ⌝ }
+{
+    let mut marks = [0u8; BYTES];
+    match gather(bytes, &mut marks) {
+        Number::Refused(r) => Number::Refused(r),
+        Number::Is(n) => {
+            clear(bytes);
+            Number::Is(n)
+        }
+    }
+}

@@ -1,0 +1,2 @@
+-- A set of keys as bits.
+pub mod Set

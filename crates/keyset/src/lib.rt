@@ -1,0 +1,125 @@
+// A set of keys in a lent array: one bit a key. Helpers between crates; each asks that the array is whole.
+ghost use mathlib.Core.Path.{_≡_};
+ghost use Prim.Native.Nat.{_+_, _<_, _≤_};
+ghost use lib.Dec.{eqb};
+ghost use lib.ListN.{length};
+ghost use Rattle.keyset.specs.Set.{bit, power, member, added, Missing, LeastMissing, membersBelow, Fronted};
+
+// Every 16-bit key has a bit.
+pub const BYTES: usize = 8192;
+
+const KEYS: usize = 65536;
+
+// The value of each bit of a byte.
+const POWERS: [u8; 8] = [1, 2, 4, 8, 16, 32, 64, 128];
+
+// A byte of the set that holds all its eight keys.
+const FULL: u8 = 255;
+
+// A key as an index.
+fn wide(key: u16) -> usize
+    ensures { λ r. ⌜ r ≡ key ⌝ }
+{
+    key as usize
+}
+
+// Whether the byte has bit i.
+fn has_bit(byte: u8, i: usize) -> bool
+    requires { ⌜ i < 8 ⌝ }
+    ensures { λ r. ⌜ r ≡ eqb (bit byte i) 1 ⌝ }
+{
+    byte / POWERS[i] % 2 == 1
+}
+
+// The byte with bit i, which it has not yet.
+fn with_bit(byte: u8, i: usize) -> u8
+    requires { ⌜ (i < 8) × (bit byte i ≡ 0) ⌝ }
+    ensures { λ r. ⌜ r ≡ byte + power i ⌝ }
+{
+    byte + POWERS[i]
+}
+
+// Whether the key is in the set.
+pub fn has(marks: &[u8; BYTES], key: u16) -> bool
+    requires { ⌜ length (now marks) ≡ 8192 ⌝ }
+    ensures { λ r. ⌜ r ≡ member (now (marks .entry)) key ⌝ }
+{
+    let k = wide(key);
+    has_bit(marks[k / 8], k % 8)
+}
+
+// Puts the key into the set.
+pub fn add(marks: &mut [u8; BYTES], key: u16)
+    requires { ⌜ length (now marks) ≡ 8192 ⌝ }
+    ensures { λ _. ⌜ now (marks .exit) ≡ added (now (marks .entry)) key ⌝ }
+{
+    let k = wide(key);
+    let at = k / 8;
+    let byte = marks[at];
+    if has_bit(byte, k % 8) {
+        return;
+    }
+    marks[at] = with_bit(byte, k % 8);
+}
+
+// The least number that is not in the set; the caller knows that one is missing.
+pub fn least_missing(marks: &[u8; BYTES]) -> u16
+    requires { ⌜ length (now marks) ≡ 8192 ⌝ }
+    requires { ⌜ Missing (now marks) ⌝ }
+    ensures { λ r. ⌜ LeastMissing (now (marks .entry)) r ⌝ }
+{
+    let mut i: usize = 0;
+    while marks[i] == FULL {
+        i += 1;
+    }
+    let mut k = (i * 8) as u16;
+    while has(marks, k) {
+        k += 1;
+    }
+    k
+}
+
+// How many numbers the set has. Bytes with none are passed at once.
+pub fn size(marks: &[u8; BYTES]) -> usize
+    requires { ⌜ length (now marks) ≡ 8192 ⌝ }
+    ensures { λ r. ⌜ r ≡ length (membersBelow (now (marks .entry)) 65536) ⌝ }
+{
+    let mut k: usize = 0;
+    let mut n: usize = 0;
+    while k < KEYS {
+        if marks[k / 8] == 0 {
+            k = (k / 8 + 1) * 8;
+            continue;
+        }
+        if has(marks, k as u16) {
+            n += 1;
+            k += 1;
+            continue;
+        }
+        k += 1;
+    }
+    n
+}
+
+// Writes the numbers of the set to the front of a row, ascending; the caller has seen that the row is long enough.
+pub fn list(marks: &[u8; BYTES], row: &mut [u16])
+    requires { ⌜ length (now marks) ≡ 8192 ⌝ }
+    requires { ⌜ length (membersBelow (now marks) 65536) ≤ length (now row) ⌝ }
+    ensures { λ _. ⌜ Fronted (membersBelow (now (marks .entry)) 65536) (now (row .entry)) (now (row .exit)) ⌝ }
+{
+    let mut k: usize = 0;
+    let mut n: usize = 0;
+    while k < KEYS {
+        if marks[k / 8] == 0 {
+            k = (k / 8 + 1) * 8;
+            continue;
+        }
+        if has(marks, k as u16) {
+            row[n] = k as u16;
+            n += 1;
+            k += 1;
+            continue;
+        }
+        k += 1;
+    }
+}

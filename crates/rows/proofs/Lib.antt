@@ -1,0 +1,2 @@
+-- A row that is filled or too short.
+pub mod Filling

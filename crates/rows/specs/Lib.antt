@@ -1,0 +1,2 @@
+-- The answer of an operation that fills a lent row.
+pub mod Row

@@ -1,0 +1,29 @@
+// Lent rows of keys (01, Operations and their refusals): a set of keys goes to the front of a row, ascending.
+ghost use mathlib.Core.Path.{_≡_};
+ghost use lib.ListN.{length};
+ghost use Rattle.operations.specs.Ask.{Filled};
+ghost use Rattle.keyset.specs.Set.{membersBelow};
+ghost use Rattle.rows.specs.Row.{refusal, count};
+use keyset::BYTES;
+
+// Refusal: the lent row is shorter than the list.
+pub const SHORT: u8 = 9;
+
+// An answer that fills a lent row: the refusal, or how many places were written.
+pub enum Row {
+    Refused(u8),
+    Count(usize),
+}
+
+// Writes the keys of a set to the front of the row, ascending, unless the row is too short. A helper between crates: the set's array is whole.
+pub fn fill(marks: &[u8; BYTES], row: &mut [u16]) -> Row
+    requires { ⌜ length (now marks) ≡ 8192 ⌝ }
+    ensures { λ r. ⌜ Filled (membersBelow (now (marks .entry)) 65536) (now (row .entry)) (refusal r) (count r) (now (row .exit)) ⌝ }
+{
+    let n = keyset::size(marks);
+    if row.len() < n {
+        return Row::Refused(SHORT);
+    }
+    keyset::list(marks, row);
+    Row::Count(n)
+}
