@@ -49,7 +49,7 @@ fn due_after(due: usize, here: u16, key: u16, kind: usize) -> usize
     ensures { λ r. ⌜ DueAfter due here key kind r ⌝ }
 {
     if 0 < due {
-        return due - 1 + reader::CHILDREN[kind];
+        return due - 1 + reader::child_count(kind);
     }
     if here == key {
         return 1;

@@ -32,23 +32,20 @@ shared-slice-read-wide c = search needs
 wide-requires : tie.Need-wide-requires Inv-loop μ-loop
 wide-requires c κs = search needs
 
-mul-at : tie.Need-mul-at Inv-loop μ-loop
-mul-at c = omega (arith, kind-known (c .before .before .before .before .before .before .before .before .args .bytes .now) (c .before .before .before .before .before .before .loop .at) _ (c .before .before .before .before .before .before .loop .inv .due) (c .before .before .before .before .before .loop-test .taken) (c .wide .result) (c .wide .ensures))
-
-array-read-at : tie.Need-array-read-at Inv-loop μ-loop
-array-read-at c = kind-known (c .before .before .before .before .before .before .before .before .args .bytes .now) (c .before .before .before .before .before .before .loop .at) _ (c .before .before .before .before .before .before .loop .inv .due) (c .before .before .before .before .before .loop-test .taken) (c .wide .result) (c .wide .ensures)
+body-length-requires : tie.Need-body-length-requires Inv-loop μ-loop
+body-length-requires c κs = omega (arith, kind-known (c .before .before .before .before .before .before .before .before .args .bytes .now) (c .before .before .before .before .before .before .loop .at) _ (c .before .before .before .before .before .before .loop .inv .due) (c .before .before .before .before .before .loop-test .taken) (c .wide .result) (c .wide .ensures))
 
 add-at : tie.Need-add-at Inv-loop μ-loop
-add-at c = omega (arith, ends-within (c .before .before .before .before .before .before .before .before .args .bytes .now) (c .before .before .before .before .before .before .loop .at) _ (c .before .before .before .before .before .before .loop .inv .due) (c .before .before .before .before .before .loop-test .taken) (c .wide .result) (c .wide .ensures))
+add-at c = omega (arith, ends-within (c .before .before .before .before .before .before .before .before .before .args .bytes .now) (c .before .before .before .before .before .before .before .loop .at) _ (c .before .before .before .before .before .before .before .loop .inv .due) (c .before .before .before .before .before .before .loop-test .taken) (c .before .wide .result) (c .before .wide .ensures), c .body-length .ensures)
 
 add-at-2 : tie.Need-add-at-2 Inv-loop μ-loop
-add-at-2 c = omega (arith, ends-within (c .before .before .before .before .before .before .before .before .args .bytes .now) (c .before .before .before .before .before .before .loop .at) _ (c .before .before .before .before .before .before .loop .inv .due) (c .before .before .before .before .before .loop-test .taken) (c .wide .result) (c .wide .ensures))
+add-at-2 c = omega (arith, ends-within (c .before .before .before .before .before .before .before .before .before .args .bytes .now) (c .before .before .before .before .before .before .before .loop .at) _ (c .before .before .before .before .before .before .before .loop .inv .due) (c .before .before .before .before .before .before .loop-test .taken) (c .before .wide .result) (c .before .wide .ensures), c .body-length .ensures)
 
 loop-less : tie.Need-loop-less Inv-loop μ-loop
-loop-less c = omega (arith, ends-within (c .before .before .before .before .before .before .before .before .args .bytes .now) (c .before .before .before .before .before .before .loop .at) _ (c .before .before .before .before .before .before .loop .inv .due) (c .before .before .before .before .before .loop-test .taken) (c .wide .result) (c .wide .ensures))
+loop-less c = omega (arith, ends-within (c .before .before .before .before .before .before .before .before .before .args .bytes .now) (c .before .before .before .before .before .before .before .loop .at) _ (c .before .before .before .before .before .before .before .loop .inv .due) (c .before .before .before .before .before .before .loop-test .taken) (c .before .wide .result) (c .before .wide .ensures), c .body-length .ensures)
 
 loop-again : tie.Need-loop-again Inv-loop μ-loop
-loop-again c = onward (c .before .before .before .before .before .before .before .before .args .bytes .now) (c .before .before .before .before .before .before .loop .marks) (c .before .before .before .before .before .before .loop .at) (c .before .before .before .before .before .before .loop .n) (c .before .before .before .before .before .before .loop .inv) (c .before .before .before .before .before .loop-test .taken) (c .before .before .before .key-at .result) (c .before .before .before .key-at .ensures) _ (c .before .before .mark .result) (c .before .before .mark .ensures) (c .wide .result) (c .wide .ensures)
+loop-again c = rw (c .body-length .ensures) (onward (c .before .before .before .before .before .before .before .before .before .args .bytes .now) (c .before .before .before .before .before .before .before .loop .marks) (c .before .before .before .before .before .before .before .loop .at) (c .before .before .before .before .before .before .before .loop .n) (c .before .before .before .before .before .before .before .loop .inv) (c .before .before .before .before .before .before .loop-test .taken) (c .before .before .before .before .key-at .result) (c .before .before .before .before .key-at .ensures) _ (c .before .before .before .mark .result) (c .before .before .before .mark .ensures) (c .before .wide .result) (c .before .wide .ensures))
 
 returns : tie.Need-returns Inv-loop μ-loop
 returns c = scanned (c .before .before .before .args .bytes .now) (c .before .loop .marks) (c .before .loop .at) (c .before .loop .n) (c .before .loop .inv) (c .loop-test .left)
@@ -65,8 +62,7 @@ scan-spec =
     add-n
     shared-slice-read-wide
     wide-requires
-    mul-at
-    array-read-at
+    body-length-requires
     add-at
     add-at-2
     loop-less

@@ -8,14 +8,11 @@ use Rattle.waiting.proofs.due_after.Tie as tie
 sub-result : tie.Need-sub-result
 sub-result c = search needs
 
-mul-result : tie.Need-mul-result
-mul-result c = search needs
-
-array-read-result : tie.Need-array-read-result
-array-read-result c = search needs
+child-count-requires : tie.Need-child-count-requires
+child-count-requires c κs = search needs
 
 add-result : tie.Need-add-result
-add-result c = omega (arith, children-few (c .before .args .kind) (c .before .pre .0))
+add-result c = omega (arith, children-few (c .before .before .args .kind) (c .before .before .pre .0), c .child-count .ensures)
 
 returns : tie.Need-returns
 returns c = search needs
@@ -28,5 +25,4 @@ returns-3 c = search needs
 
 pub due-after-spec : {M : Type 1} → statement M
 due-after-spec =
-    tie.close
-    (tie.spec sub-result mul-result array-read-result add-result returns returns-2 returns-3)
+    tie.close (tie.spec sub-result child-count-requires add-result returns returns-2 returns-3)

@@ -35,23 +35,20 @@ mark-requires c κs = c .before .before .before .before .before .before .loop .i
 due-after-requires : tie.Need-due-after-requires Inv-loop μ-loop
 due-after-requires c κs = (kind-known (c .before .before .before .before .before .before .before .before .before .args .bytes .now) (c .before .before .before .before .before .before .before .loop .at) _ (c .before .before .before .before .before .before .before .loop .inv .terms) (c .before .before .before .before .before .before .loop-test .taken) (c .before .before .before .before .wide .result) (c .before .before .before .before .wide .ensures), omega (arith, due-small (c .before .before .before .before .before .before .before .before .before .args .bytes .now) (c .before .before .before .before .before .before .before .loop .marks) (c .before .before .before .before .before .before .before .before .before .args .key) (c .before .before .before .before .before .before .before .loop .at) (c .before .before .before .before .before .before .before .loop .due) (c .before .before .before .before .before .before .before .loop .inv), c .before .before .before .before .before .before .before .before .before .good .0 .1))
 
-mul-at : tie.Need-mul-at Inv-loop μ-loop
-mul-at c = omega (arith, kind-known (c .before .before .before .before .before .before .before .before .before .before .args .bytes .now) (c .before .before .before .before .before .before .before .before .loop .at) _ (c .before .before .before .before .before .before .before .before .loop .inv .terms) (c .before .before .before .before .before .before .before .loop-test .taken) (c .before .before .before .before .before .wide .result) (c .before .before .before .before .before .wide .ensures))
-
-array-read-at : tie.Need-array-read-at Inv-loop μ-loop
-array-read-at c = kind-known (c .before .before .before .before .before .before .before .before .before .before .args .bytes .now) (c .before .before .before .before .before .before .before .before .loop .at) _ (c .before .before .before .before .before .before .before .before .loop .inv .terms) (c .before .before .before .before .before .before .before .loop-test .taken) (c .before .before .before .before .before .wide .result) (c .before .before .before .before .before .wide .ensures)
+body-length-requires : tie.Need-body-length-requires Inv-loop μ-loop
+body-length-requires c κs = omega (arith, kind-known (c .before .before .before .before .before .before .before .before .before .before .args .bytes .now) (c .before .before .before .before .before .before .before .before .loop .at) _ (c .before .before .before .before .before .before .before .before .loop .inv .terms) (c .before .before .before .before .before .before .before .loop-test .taken) (c .before .before .before .before .before .wide .result) (c .before .before .before .before .before .wide .ensures))
 
 add-at : tie.Need-add-at Inv-loop μ-loop
-add-at c = omega (arith, ends-within (c .before .before .before .before .before .before .before .before .before .before .args .bytes .now) (c .before .before .before .before .before .before .before .before .loop .at) _ (c .before .before .before .before .before .before .before .before .loop .inv .terms) (c .before .before .before .before .before .before .before .loop-test .taken) (c .before .before .before .before .before .wide .result) (c .before .before .before .before .before .wide .ensures))
+add-at c = omega (arith, ends-within (c .before .before .before .before .before .before .before .before .before .before .before .args .bytes .now) (c .before .before .before .before .before .before .before .before .before .loop .at) _ (c .before .before .before .before .before .before .before .before .before .loop .inv .terms) (c .before .before .before .before .before .before .before .before .loop-test .taken) (c .before .before .before .before .before .before .wide .result) (c .before .before .before .before .before .before .wide .ensures), c .body-length .ensures)
 
 add-at-2 : tie.Need-add-at-2 Inv-loop μ-loop
-add-at-2 c = omega (arith, ends-within (c .before .before .before .before .before .before .before .before .before .before .args .bytes .now) (c .before .before .before .before .before .before .before .before .loop .at) _ (c .before .before .before .before .before .before .before .before .loop .inv .terms) (c .before .before .before .before .before .before .before .loop-test .taken) (c .before .before .before .before .before .wide .result) (c .before .before .before .before .before .wide .ensures))
+add-at-2 c = omega (arith, ends-within (c .before .before .before .before .before .before .before .before .before .before .before .args .bytes .now) (c .before .before .before .before .before .before .before .before .before .loop .at) _ (c .before .before .before .before .before .before .before .before .before .loop .inv .terms) (c .before .before .before .before .before .before .before .before .loop-test .taken) (c .before .before .before .before .before .before .wide .result) (c .before .before .before .before .before .before .wide .ensures), c .body-length .ensures)
 
 loop-less : tie.Need-loop-less Inv-loop μ-loop
-loop-less c = omega (arith, ends-within (c .before .before .before .before .before .before .before .before .before .before .args .bytes .now) (c .before .before .before .before .before .before .before .before .loop .at) _ (c .before .before .before .before .before .before .before .before .loop .inv .terms) (c .before .before .before .before .before .before .before .loop-test .taken) (c .before .before .before .before .before .wide .result) (c .before .before .before .before .before .wide .ensures))
+loop-less c = omega (arith, ends-within (c .before .before .before .before .before .before .before .before .before .before .before .args .bytes .now) (c .before .before .before .before .before .before .before .before .before .loop .at) _ (c .before .before .before .before .before .before .before .before .before .loop .inv .terms) (c .before .before .before .before .before .before .before .before .loop-test .taken) (c .before .before .before .before .before .before .wide .result) (c .before .before .before .before .before .before .wide .ensures), c .body-length .ensures)
 
 loop-again : tie.Need-loop-again Inv-loop μ-loop
-loop-again c = onward (c .before .before .before .before .before .before .before .before .before .before .args .bytes .now) (c .before .before .before .before .before .before .before .before .loop .marks) (c .before .before .before .before .before .before .before .before .before .before .args .key) (c .before .before .before .before .before .before .before .before .loop .at) (c .before .before .before .before .before .before .before .before .loop .due) (c .before .before .before .before .before .before .before .before .loop .inv) (c .before .before .before .before .before .before .before .loop-test .taken) (c .before .before .before .before .before .before .before .before .before .before .pre .1 .0) (c .before .before .before .before .key-at .result) (c .before .before .before .before .key-at .ensures) (c .before .before .to-mark .result) (c .before .before .to-mark .ensures) _ _ (c .before .mark .ensures) (c .before .before .before .before .before .wide .result) (c .before .before .before .before .before .wide .ensures) (c .due-after .result) (c .due-after .ensures)
+loop-again c = rw (c .body-length .ensures) (onward (c .before .before .before .before .before .before .before .before .before .before .before .args .bytes .now) (c .before .before .before .before .before .before .before .before .before .loop .marks) (c .before .before .before .before .before .before .before .before .before .before .before .args .key) (c .before .before .before .before .before .before .before .before .before .loop .at) (c .before .before .before .before .before .before .before .before .before .loop .due) (c .before .before .before .before .before .before .before .before .before .loop .inv) (c .before .before .before .before .before .before .before .before .loop-test .taken) (c .before .before .before .before .before .before .before .before .before .before .before .pre .1 .0) (c .before .before .before .before .before .key-at .result) (c .before .before .before .before .before .key-at .ensures) (c .before .before .before .to-mark .result) (c .before .before .before .to-mark .ensures) _ _ (c .before .before .mark .ensures) (c .before .before .before .before .before .before .wide .result) (c .before .before .before .before .before .before .wide .ensures) (c .before .due-after .result) (c .before .due-after .ensures))
 
 returns : tie.Need-returns Inv-loop μ-loop
 returns c = marked-below (c .before .before .before .args .bytes .now) (c .before .loop .marks) (c .before .before .before .args .key) (c .before .loop .at) (c .before .loop .due) (c .before .loop .inv) (c .loop-test .left)
@@ -69,8 +66,7 @@ mark-below-spec =
     to-mark-requires
     mark-requires
     due-after-requires
-    mul-at
-    array-read-at
+    body-length-requires
     add-at
     add-at-2
     loop-less
