@@ -202,7 +202,7 @@ pub fn over_restriction(name: u8, below: Move) -> Move
         Move::Still => Move::Still,
         Move::Step(l) => {
             if is_on(name, l) {
-                return Move::Stuck;
+                return Move::Stuck; // the restriction hides it
             }
             Move::Step(l)
         }

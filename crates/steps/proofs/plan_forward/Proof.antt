@@ -28,13 +28,13 @@ returns-3 : tie.Need-returns-3
 returns-3 c = let n = c .before .before .before .before .before .before .before in let a = n .before .before .args in let w = n .survey-all in forward-not-one (a .s .now) (bytes-of (a .s .now) (λ i. omega (arith, n .before .shared-slice-known .given i))) (a .p) (a .q) (a .key) _ (whole-seen (a .s .now) _ (w .result) (w .ensures) _ (c .before .before .before .before .before .seen .given .1)) (c .before .before .before .if1 .left) (c .before .before .if2 .taken) (c .if3 .left)
 
 returns-4 : tie.Need-returns-4
-returns-4 c = let n = c .before .before .before .before .before .before in let a = n .before .before .args in let w = n .survey-all in forward-not-after (a .s .now) (bytes-of (a .s .now) (λ i. omega (arith, n .before .shared-slice-known .given i))) (a .p) (a .q) (a .key) _ (whole-seen (a .s .now) _ (w .result) (w .ensures) _ (c .before .before .before .before .seen .given .1)) (c .before .before .if1 .left) (c .before .if2 .left) (c .if4 .taken)
+returns-4 c = let n = c .before .before .before .before .before .before in let a = n .before .before .args in let w = n .survey-all in forward-not-after (a .s .now) (bytes-of (a .s .now) (λ i. omega (arith, n .before .shared-slice-known .given i))) (a .p) (a .q) (a .key) _ (whole-seen (a .s .now) _ (w .result) (w .ensures) _ (c .before .before .before .before .seen .given .1)) (c .before .before .if1 .left) (c .before .if2 .left) (omega (arith, c .if4 .taken))
 
 settle-requires-2 : tie.Need-settle-requires-2
 settle-requires-2 c κs = search needs
 
 returns-5 : tie.Need-returns-5
-returns-5 c = let n = c .before .before .before .before .before .before .before .before .before in let a = n .before .before .args in let w = n .survey-all in forward-two (a .s .now) (bytes-of (a .s .now) (λ i. omega (arith, n .before .shared-slice-known .given i))) (a .p) (a .q) (a .key) _ (whole-seen (a .s .now) _ (w .result) (w .ensures) _ (c .before .before .before .before .before .before .before .seen .given .1)) (c .before .before .before .before .before .if1 .left) (c .before .before .before .if4 .left) (c .before .if5 .taken) _ (c .settle2 .ensures)
+returns-5 c = let n = c .before .before .before .before .before .before .before .before .before in let a = n .before .before .args in let w = n .survey-all in forward-two (a .s .now) (bytes-of (a .s .now) (λ i. omega (arith, n .before .shared-slice-known .given i))) (a .p) (a .q) (a .key) _ (whole-seen (a .s .now) _ (w .result) (w .ensures) _ (c .before .before .before .before .before .before .before .seen .given .1)) (c .before .before .before .before .before .if1 .left) (omega (arith, c .before .before .before .if4 .left)) (c .before .if5 .taken) _ (c .settle2 .ensures)
 
 returns-6 : tie.Need-returns-6
 returns-6 c = let n = c .before .before .before in let w = n .survey-all in (tt, unreadable (whole-refused (n .before .before .args .s .now) _ (w .result) (w .ensures) _ (c .before .c .given .1)))
