@@ -1,2 +1,3 @@
--- Only one packed answer fits, and how the functions' proofs come to it.
+-- How answers are packed, and that only one packed answer fits each entry.
 pub mod Packs
+pub mod Once

@@ -1,28 +1,28 @@
--- The packed answers: how an answer that fits is packed, and that only one number and one record fit.
+-- The packed answers: how an answer that fits is packed; and where only one answer fits a promise, only one fits packed.
 use mathlib.Core.Path.{_≡_}
 use mathlib.Core.List.{List}
 use Prim.Native.Nat.{ℕ}
-use Rattle.operations.specs.Change.{ForwardStep, UndoStep}
-use Rattle.operations.specs.Ask.{ReadRecord}
-use Rattle.operations.proofs.ChangeOnce.{forward-once, undo-step-once}
-use Rattle.operations.proofs.NumberOnce.{read-once}
-use Rattle.concoursel.specs.Packed.{step-answer, answer, PackedForward, PackedUndo, PackedRead, PackedForward.packed, PackedUndo.packed, PackedRead.packed}
+use Rattle.ccsk.specs.Term.{Label}
+use Rattle.concoursel.specs.Packed.{step-answer, answer, PackedStep, PackedNumber, PackedLent, PackedStep.packed, PackedNumber.packed, PackedLent.packed}
 
-pub pack-forward : {s b : List ℕ} {p q m c l : ℕ} (r : ℕ) → r ≡ step-answer c l → ForwardStep s p q m c l b → PackedForward s p q m r b
-pack-forward r e f = rw e (packed f)
+pub pack-step : {P : ℕ → Label → List ℕ → Type 0} (r c l : ℕ) (b : List ℕ) → r ≡ step-answer c l → P c l b → PackedStep P r b
+pack-step r c l b e f = rw e (packed f)
 
-pub pack-undo : {s b : List ℕ} {m c l : ℕ} (r : ℕ) → r ≡ step-answer c l → UndoStep s m c l b → PackedUndo s m r b
-pack-undo r e f = rw e (packed f)
+pub pack-number : {P : ℕ → ℕ → Type 0} (r c n : ℕ) → r ≡ answer c 0 0 0 n → P c n → PackedNumber P r
+pack-number r c n e f = rw e (packed f)
 
-pub pack-read : {s : List ℕ} {c n : ℕ} (r : ℕ) → r ≡ answer c 0 0 0 n → ReadRecord s c n → PackedRead s r
-pack-read r e f = rw e (packed f)
+pub pack-lent : {P : ℕ → ℕ → List ℕ → Type 0} (r c n : ℕ) (b : List ℕ) → r ≡ answer c 0 0 0 n → P c n b → PackedLent P r b
+pack-lent r c n b e f = rw e (packed f)
 
--- only one answer and one record fit
-pub packed-forward-once : {s b b′ : List ℕ} {p q m r r′ : ℕ} → PackedForward s p q m r b → PackedForward s p q m r′ b′ → (r ≡ r′) × (b ≡ b′)
-packed-forward-once (packed f) (packed g) = let e = forward-once f g in (rw (e .0, e .1), e .2)
+-- a promise that only one answer and one record or row fit
+abbrev pub OnlyOne : (ℕ → ℕ → List ℕ → Type 0) → Type 0
+OnlyOne P = {c c′ n n′ : ℕ} {b b′ : List ℕ} → P c n b → P c′ n′ b′ → (c ≡ c′) × (n ≡ n′) × (b ≡ b′)
 
-pub packed-undo-once : {s b b′ : List ℕ} {m r r′ : ℕ} → PackedUndo s m r b → PackedUndo s m r′ b′ → (r ≡ r′) × (b ≡ b′)
-packed-undo-once (packed f) (packed g) = let e = undo-step-once f g in (rw (e .0, e .1), e .2)
+pub packed-step-once : {P : ℕ → Label → List ℕ → Type 0} {r r′ : ℕ} {b b′ : List ℕ} → OnlyOne P → PackedStep P r b → PackedStep P r′ b′ → (r ≡ r′) × (b ≡ b′)
+packed-step-once o (packed f) (packed g) = let e = o f g in (rw (e .0, e .1), e .2)
 
-pub packed-read-once : {s : List ℕ} {r r′ : ℕ} → PackedRead s r → PackedRead s r′ → r ≡ r′
-packed-read-once (packed f) (packed g) = let e = read-once f g in rw (e .0, e .1)
+pub packed-lent-once : {P : ℕ → ℕ → List ℕ → Type 0} {r r′ : ℕ} {b b′ : List ℕ} → OnlyOne P → PackedLent P r b → PackedLent P r′ b′ → (r ≡ r′) × (b ≡ b′)
+packed-lent-once o (packed f) (packed g) = let e = o f g in (rw (e .0, e .1), e .2)
+
+pub packed-number-once : {P : ℕ → ℕ → Type 0} {r r′ : ℕ} → ({c c′ n n′ : ℕ} → P c n → P c′ n′ → (c ≡ c′) × (n ≡ n′)) → PackedNumber P r → PackedNumber P r′ → r ≡ r′
+packed-number-once o (packed f) (packed g) = let e = o f g in rw (e .0, e .1)

@@ -1,9 +1,7 @@
--- The answers of the entries for a host: one number each.
+-- The answers of the entries for a host: one number each, with what stands in the lent buffer afterwards.
 use mathlib.Core.List.{List}
 use Prim.Native.Nat.{ℕ, _+_, _*_}
-use Rattle.ccsk.specs.Term.{Key, Label, Node}
-use Rattle.operations.specs.Change.{ForwardStep, UndoStep}
-use Rattle.operations.specs.Ask.{ReadRecord}
+use Rattle.ccsk.specs.Term.{Label, Node}
 
 -- Forward step and undo: refusal number times 256, plus the label (01, Operations, the last paragraph).
 abbrev pub step-answer : ℕ → Label → ℕ
@@ -14,14 +12,14 @@ step-answer refusal label = refusal * 256 + label
 abbrev pub answer : ℕ → ℕ → Label → Node → ℕ → ℕ
 answer refusal mark label p q = refusal * 281474976710656 + mark * 1099511627776 + label * 4294967296 + p * 65536 + q
 
--- Forward step: the number r packs an answer that fits, and b are the bytes afterwards.
-pub data PackedForward (s : List ℕ) (p q : Node) (m : Key) : ℕ → List ℕ → Type 0 where
-  packed : {c : ℕ} {l : Label} {b : List ℕ} → ForwardStep s p q m c l b → PackedForward s p q m (step-answer c l) b
+-- The answer of a step, of an operation with a promise P on refusal, label and the record afterwards.
+pub data PackedStep (P : ℕ → Label → List ℕ → Type 0) : ℕ → List ℕ → Type 0 where
+  packed : {c : ℕ} {l : Label} {b : List ℕ} → P c l b → PackedStep P (step-answer c l) b
 
--- Undo.
-pub data PackedUndo (s : List ℕ) (m : Key) : ℕ → List ℕ → Type 0 where
-  packed : {c : ℕ} {l : Label} {b : List ℕ} → UndoStep s m c l b → PackedUndo s m (step-answer c l) b
+-- An answer that is a number.
+pub data PackedNumber (P : ℕ → ℕ → Type 0) : ℕ → Type 0 where
+  packed : {c n : ℕ} → P c n → PackedNumber P (answer c 0 0 0 n)
 
--- Reading.
-pub data PackedRead (s : List ℕ) : ℕ → Type 0 where
-  packed : {c n : ℕ} → ReadRecord s c n → PackedRead s (answer c 0 0 0 n)
+-- An answer that is a number, with the lent record or row afterwards.
+pub data PackedLent (P : ℕ → ℕ → List ℕ → Type 0) : ℕ → List ℕ → Type 0 where
+  packed : {c n : ℕ} {b : List ℕ} → P c n b → PackedLent P (answer c 0 0 0 n) b

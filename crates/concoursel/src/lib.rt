@@ -1,21 +1,57 @@
-// The entries for a host: every operation on numbers and byte slices. Each calls the proved operation and packs its answer into one number.
+// The entries for a host: every operation on numbers, byte slices and rows. Each calls the proved operation and packs its answer into one number.
+use keys::Number;
 use reader::Count;
 use reader::Key;
 use reader::Node;
+use rows::Row;
 use steps::Moved;
 ghost use mathlib.Core.Path.{_≡_};
-ghost use Rattle.steps.specs.Plan.{refusal, label};
-ghost use Rattle.concoursel.specs.Packed.{step-answer, PackedRead, PackedForward, PackedUndo};
+ghost use Rattle.keys.specs.Number as number;
+ghost use Rattle.operations.specs.Ask.{ReadRecord, KeyCount, FreeKey, WaitingList};
+ghost use Rattle.operations.specs.Change.{ForwardStep, UndoStep, BlankForm};
+ghost use Rattle.rows.specs.Row as row;
+ghost use Rattle.steps.specs.Plan as plan;
+ghost use Rattle.concoursel.specs.Packed.{step-answer, answer, PackedStep, PackedNumber, PackedLent};
 
 // What a refusal number is multiplied by: 2^8 in the answer of a step, 2^48 in the other answers.
 const STEP_REFUSAL: u32 = 256;
 
 const REFUSAL: u64 = 281474976710656;
 
-// Reading: refusal × 2^48 + number of nodes.
+// The answer of a step as one number.
+fn packed_step(given: Moved) -> u32
+    ensures { λ r. ⌜ r ≡ step-answer (plan.refusal given) (plan.label given) ⌝ }
+{
+    match given {
+        Moved::Refused(c) => c as u32 * STEP_REFUSAL,
+        Moved::Done(l) => l as u32,
+    }
+}
+
+// An answer that is a number, packed.
+fn packed_number(given: Number) -> u64
+    ensures { λ r. ⌜ r ≡ answer (number.refusal given) 0 0 0 (number.value given) ⌝ }
+{
+    match given {
+        Number::Refused(c) => c as u64 * REFUSAL,
+        Number::Is(n) => n as u64,
+    }
+}
+
+// The answer of an operation that fills a lent row, packed.
+fn packed_row(given: Row) -> u64
+    ensures { λ r. ⌜ r ≡ answer (row.refusal given) 0 0 0 (row.count given) ⌝ }
+{
+    match given {
+        Row::Refused(c) => c as u64 * REFUSAL,
+        Row::Count(n) => n as u64,
+    }
+}
+
+// Reading: the number of nodes.
 #[no_mangle]
 pub extern "C" fn concoursel_read(record: &[u8]) -> u64
-    ensures { λ r. ⌜ PackedRead (now («record» .entry)) r ⌝ }
+    ensures { λ r. ⌜ PackedNumber (ReadRecord (now («record» .entry))) r ⌝ }
 {
     match reader::read(record) {
         Count::Refused(c) => c as u64 * REFUSAL,
@@ -23,28 +59,50 @@ pub extern "C" fn concoursel_read(record: &[u8]) -> u64
     }
 }
 
-// Forward step: refusal × 256 + label.
+// Forward step at the node p, or at p and q if q is not 0, with the key.
 #[no_mangle]
 pub extern "C" fn concoursel_forward(record: &mut [u8], p: u16, q: u16, key: u16) -> u32
-    ensures { λ r. ⌜ PackedForward (now («record» .entry)) p q key r (now («record» .exit)) ⌝ }
+    ensures { λ r. ⌜ PackedStep (ForwardStep (now («record» .entry)) p q key) r (now («record» .exit)) ⌝ }
 {
-    packed(steps::forward(record, Node(p), Node(q), Key(key)))
+    packed_step(steps::forward(record, Node(p), Node(q), Key(key)))
 }
 
-// Undo: refusal × 256 + label.
+// Undo of the key.
 #[no_mangle]
 pub extern "C" fn concoursel_undo(record: &mut [u8], key: u16) -> u32
-    ensures { λ r. ⌜ PackedUndo (now («record» .entry)) key r (now («record» .exit)) ⌝ }
+    ensures { λ r. ⌜ PackedStep (UndoStep (now («record» .entry)) key) r (now («record» .exit)) ⌝ }
 {
-    packed(steps::undo(record, Key(key)))
+    packed_step(steps::undo(record, Key(key)))
 }
 
-// The answer of a step as one number.
-fn packed(answer: Moved) -> u32
-    ensures { λ r. ⌜ r ≡ step-answer (refusal answer) (label answer) ⌝ }
+// The number of distinct keys.
+#[no_mangle]
+pub extern "C" fn concoursel_count(record: &[u8]) -> u64
+    ensures { λ r. ⌜ PackedNumber (KeyCount (now («record» .entry))) r ⌝ }
 {
-    match answer {
-        Moved::Refused(c) => c as u32 * STEP_REFUSAL,
-        Moved::Done(l) => l as u32,
-    }
+    packed_number(keys::count(record))
+}
+
+// The least free key.
+#[no_mangle]
+pub extern "C" fn concoursel_least_free(record: &[u8]) -> u64
+    ensures { λ r. ⌜ PackedNumber (FreeKey (now («record» .entry))) r ⌝ }
+{
+    packed_number(keys::least_free(record))
+}
+
+// The blank form, and how many distinct keys that removed.
+#[no_mangle]
+pub extern "C" fn concoursel_blank(record: &mut [u8]) -> u64
+    ensures { λ r. ⌜ PackedLent (BlankForm (now («record» .entry))) r (now («record» .exit)) ⌝ }
+{
+    packed_number(keys::blank(record))
+}
+
+// The waiting list of the key, to the front of the row.
+#[no_mangle]
+pub extern "C" fn concoursel_waiting(record: &[u8], key: u16, list: &mut [u16]) -> u64
+    ensures { λ r. ⌜ PackedLent (WaitingList (now («record» .entry)) key (now (list .entry))) r (now (list .exit)) ⌝ }
+{
+    packed_row(waiting::waiting(record, key, list))
 }

@@ -1,0 +1,33 @@
+-- Each entry's promise leaves room for one answer, and for one record or row afterwards.
+use mathlib.Core.Path.{_≡_}
+use mathlib.Core.List.{List}
+use Prim.Native.Nat.{ℕ}
+use Rattle.operations.specs.Change.{ForwardStep, UndoStep, BlankForm}
+use Rattle.operations.specs.Ask.{ReadRecord, KeyCount, FreeKey, WaitingList}
+use Rattle.operations.proofs.ChangeOnce.{forward-once, undo-step-once, blank-once}
+use Rattle.operations.proofs.NumberOnce.{read-once, count-once, free-once}
+use Rattle.operations.proofs.RowOnce.{waiting-once}
+use Rattle.concoursel.specs.Packed.{PackedStep, PackedNumber, PackedLent}
+use Rattle.concoursel.proofs.Packs.{packed-step-once, packed-number-once, packed-lent-once}
+
+module _ (s : List ℕ) where
+  pub forward-entry-once : {p q m r r′ : ℕ} {b b′ : List ℕ} → PackedStep (ForwardStep s p q m) r b → PackedStep (ForwardStep s p q m) r′ b′ → (r ≡ r′) × (b ≡ b′)
+  forward-entry-once = packed-step-once forward-once
+
+  pub undo-entry-once : {m r r′ : ℕ} {b b′ : List ℕ} → PackedStep (UndoStep s m) r b → PackedStep (UndoStep s m) r′ b′ → (r ≡ r′) × (b ≡ b′)
+  undo-entry-once = packed-step-once undo-step-once
+
+  pub read-entry-once : {r r′ : ℕ} → PackedNumber (ReadRecord s) r → PackedNumber (ReadRecord s) r′ → r ≡ r′
+  read-entry-once = packed-number-once read-once
+
+  pub count-entry-once : {r r′ : ℕ} → PackedNumber (KeyCount s) r → PackedNumber (KeyCount s) r′ → r ≡ r′
+  count-entry-once = packed-number-once count-once
+
+  pub least-free-entry-once : {r r′ : ℕ} → PackedNumber (FreeKey s) r → PackedNumber (FreeKey s) r′ → r ≡ r′
+  least-free-entry-once = packed-number-once free-once
+
+  pub blank-entry-once : {r r′ : ℕ} {b b′ : List ℕ} → PackedLent (BlankForm s) r b → PackedLent (BlankForm s) r′ b′ → (r ≡ r′) × (b ≡ b′)
+  blank-entry-once = packed-lent-once blank-once
+
+  pub waiting-entry-once : {m r r′ : ℕ} {row b b′ : List ℕ} → PackedLent (WaitingList s m row) r b → PackedLent (WaitingList s m row) r′ b′ → (r ≡ r′) × (b ≡ b′)
+  waiting-entry-once = packed-lent-once waiting-once
