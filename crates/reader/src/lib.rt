@@ -1,9 +1,9 @@
 // Reading a record (01, The record): one node at a place, the term that starts at a place, and the whole record.
-ghost use Prim.Native.Nat.{_<_};
+ghost use Prim.Native.Nat.{_<_, _≤_};
 ghost use mathlib.Core.Path.{_≡_};
 ghost use lib.ListN.{length};
 ghost use Rattle.operations.specs.Ask.{ReadRecord};
-ghost use Rattle.reader.specs.Head.{Headed};
+ghost use Rattle.reader.specs.Head.{body, childCount, Headed};
 ghost use Rattle.reader.specs.Walk.{Walked};
 ghost use Rattle.reader.specs.Count.{refusal, nodes};
 
@@ -23,9 +23,9 @@ pub const PARALLEL: usize = 3;
 
 pub const RESTRICTION: usize = 4;
 
-const BODY: [usize; 5] = [0, 3, 0, 0, 1];
+const BODY: [u8; 5] = [0, 3, 0, 0, 1];
 
-const CHILDREN: [usize; 5] = [0, 1, 2, 2, 1];
+const CHILDREN: [u8; 5] = [0, 1, 2, 2, 1];
 
 // The byte that is no action, and the greatest name.
 const NO_ACTION: u8 = 128;
@@ -73,6 +73,22 @@ pub fn wide(x: u8) -> usize
     x as usize
 }
 
+// How many bytes the body of a node of a known kind has.
+pub fn body_length(kind: usize) -> usize
+    requires { ⌜ kind ≤ 4 ⌝ }
+    ensures { λ r. ⌜ r ≡ body kind ⌝ }
+{
+    wide(BODY[kind])
+}
+
+// How many children a node of a known kind has.
+pub fn child_count(kind: usize) -> usize
+    requires { ⌜ kind ≤ 4 ⌝ }
+    ensures { λ r. ⌜ r ≡ childCount kind ⌝ }
+{
+    wide(CHILDREN[kind])
+}
+
 // The node at `at`, without its children. The caller has seen that a byte stands there.
 pub fn node_at(s: &[u8], at: usize) -> Head
     requires { ⌜ at < length (now s) ⌝ }
@@ -82,7 +98,7 @@ pub fn node_at(s: &[u8], at: usize) -> Head
     if RESTRICTION < kind {
         return Head::Bad;
     }
-    let body = BODY[kind];
+    let body = body_length(kind);
     let from = at + 1;
     if s.len() - from < body {
         return Head::Bad;
@@ -102,7 +118,7 @@ pub fn node_at(s: &[u8], at: usize) -> Head
     }
     Head::Node {
         kind: kind,
-        children: CHILDREN[kind],
+        children: child_count(kind),
         next: from + body,
     }
 }

@@ -7,6 +7,7 @@ use survey::seen::Ask;
 use survey::seen::Move;
 use survey::seen::NOT_DONE;
 use survey::seen::Seen;
+use survey::seen::wide;
 ghost use mathlib.Core.Path.{_≡_};
 ghost use Prim.Native.Nat.{_+_, _<_, _/_, _%_};
 ghost use lib.ListN.{length, set};
@@ -36,24 +37,18 @@ pub enum Moved {
 // What is to be done: refuse, or make a step with this label at one place or two, given by where the bytes of each begin.
 pub enum Plan {
     Refused(u8),
-    One(u8, usize),
-    Two(u8, usize, usize),
-}
-
-// A 16-bit number as an index.
-fn wide(x: u16) -> usize
-    ensures { λ r. ⌜ r ≡ x ⌝ }
-{
-    x as usize
+    One(u8, u16),
+    Two(u8, u16, u16),
 }
 
 // Writes a key into the prefix whose bytes begin at `at`. The caller has seen that its body stands there.
-fn write(bytes: &mut [u8], at: usize, key: u16)
+fn write(bytes: &mut [u8], at: u16, key: u16)
     requires { ⌜ at + 3 < length (now bytes) ⌝ }
     ensures { λ _. ⌜ now (bytes .exit) ≡ set (set (now (bytes .entry)) (at + 2) (key / 256)) (at + 3) (key % 256) ⌝ }
 {
-    bytes[at + 2] = (key / 256) as u8;
-    bytes[at + 3] = (key % 256) as u8;
+    let i = wide(at);
+    bytes[i + 2] = (key / 256) as u8;
+    bytes[i + 3] = (key % 256) as u8;
 }
 
 // Carries out a plan with a key, and tells the answer. The caller has seen that the places of the plan stand in the record.
@@ -96,7 +91,7 @@ fn settle(seen: Seen, two: bool) -> Plan
 }
 
 // The plan of a forward step at the node p, or at p and q if q is not 0, with the key.
-fn plan_forward(s: &[u8], p: usize, q: usize, key: u16) -> Plan
+fn plan_forward(s: &[u8], p: u16, q: u16, key: u16) -> Plan
     ensures { λ r. ⌜ Inside (length (now (s .entry))) r × ForwardStep (now (s .entry)) p q key (planned r) (told r) (carried key r (now (s .entry))) ⌝ }
 {
     match survey_all(
@@ -170,7 +165,7 @@ fn plan_undo(s: &[u8], key: u16) -> Plan
 pub fn forward(bytes: &mut [u8], p: Node, q: Node, key: Key) -> Moved
     ensures { λ r. ⌜ ForwardStep (now (bytes .entry)) (p .0) (q .0) (key .0) (refusal r) (label r) (now (bytes .exit)) ⌝ }
 {
-    let plan = plan_forward(bytes, wide(p.0), wide(q.0), key.0);
+    let plan = plan_forward(bytes, p.0, q.0, key.0);
     carry_out(bytes, plan, key.0)
 }
 

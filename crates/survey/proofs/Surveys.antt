@@ -3,7 +3,7 @@ use mathlib.Core.Path.{_≡_, refl, sym, subst, _∙_}
 use mathlib.Core.Logic.{_⊎_, ⊎-elim}
 use mathlib.Core.List.{List}
 use mathlib.Core.Bool.{Bool, true, false}
-use Prim.Native.Nat.{ℕ, suc, _+_, _-_, _<_, _≤_}
+use Prim.Native.Nat.{ℕ, suc, _+_, _*_, _-_, _<_, _≤_}
 use native.Mathlib.Omega.{arith}
 use borrow.Author.Tests.{eq-eqb, ne-eqb}
 use lib.Dec.{eqb}
@@ -18,6 +18,7 @@ use Rattle.reader.specs.declared.Head.{Head}
 use Rattle.reader.specs.declared.Head.the-variants as head
 use Rattle.reader.specs.Head.{NodeAt, NoNodeAt, Headed, body, childCount}
 use Rattle.reader.specs.Walk.{Stops, Walks}
+use Rattle.reader.proofs.Heads.{by-kind}
 use Rattle.reader.proofs.Laws.{walks-nil, walks-prefix, walks-restriction, walks-choice, walks-parallel, no-children, one-child, two-children, stops-first, stops-second}
 use Rattle.survey.specs.declared.seen.Ask.{Ask}
 use Rattle.survey.specs.declared.seen.Seen.{Seen}
@@ -40,6 +41,15 @@ spots-few c i n (cho t u) = rw length-append (omega (arith, spots-few c (i + 1) 
 spots-few c i n (par t u) = rw length-append (omega (arith, spots-few c (i + 1) (n + 1) t, spots-few c (i + 1 + length (encode t)) (n + 1 + size t) u))
 spots-few c i n (res a t) = omega (arith, spots-few c (i + 2) (n + 1) t)
 
+-- a term takes at most four bytes a node
+encode-short : (t : Term) → length (encode t) ≤ 4 * size t
+unfolding encode size
+encode-short nil = omega arith
+encode-short (pre a k t) = omega (arith, encode-short t)
+encode-short (cho t u) = rw length-append (omega (arith, encode-short t, encode-short u))
+encode-short (par t u) = rw length-append (omega (arith, encode-short t, encode-short u))
+encode-short (res a t) = omega (arith, encode-short t)
+
 -- the answer of `node_at`, once its case is known
 module _ (s : List ℕ) (at : ℕ) (h : Head) (H : Headed s at h) where
   pub node-unknown : h ≡ head.Bad → NoNodeAt s at
@@ -58,11 +68,15 @@ module _ (s : List ℕ) (at d k : ℕ) (ask : Ask) (r : Outcome) (w : Surveyed s
     surveyed-part = subst (Surveyed s at d k ask) e w
 
     -- few prefixes are chosen, and no more nodes are left than before
-    pub few-chosen : k ≤ node-limit → x .count < 65536
+    pub few-chosen : k ≤ node-limit → x .count ≤ node-limit
     few-chosen h = let p = surveyed-part in omega (arith, p .2 .count, spots-few (choiceOf ask) at (node-limit - k) (p .0), p .1 .nodes)
 
     pub few-left : k ≤ node-limit → l ≤ node-limit
     few-left h = let p = surveyed-part in omega (arith, p .1 .nodes)
+
+    -- four bytes a node are enough for what is read and what may still come
+    pub near : at + 4 * k ≤ 4 * node-limit → next + 4 * l ≤ 4 * node-limit
+    near h = let p = surveyed-part in omega (arith, p .1 .ends, p .1 .nodes, encode-short (p .0))
 
 module _ (s : List ℕ) (at d k : ℕ) (hs : at < length s) (hd : d ≡ 0 → ⊥) (hk : k ≡ 0 → ⊥) (kind children next : ℕ) (H : NodeAt s at kind children next) (ask : Ask) (lim : k ≤ node-limit) where
   pub surveyed-nil : children ≡ 0 → (r : Seen) → ((ask : Ask) (i n : ℕ) → Found ask i n nil r) → Surveyed s at d k ask (found.Part next (k - 1) r)
@@ -70,6 +84,10 @@ module _ (s : List ℕ) (at d k : ℕ) (hs : at < length s) (hd : d ≡ 0 → �
 
   ends : (n : ℕ) → kind ≡ n → next ≡ at + 1 + body n
   ends n q = subst (λ (m : ℕ). next ≡ at + 1 + body m) q (H .ends)
+
+  -- a body has at most three bytes
+  pub next-near : next ≤ at + 4
+  next-near = omega (arith, H .ends, by-kind (λ m. body m ≤ 3) (omega arith) (omega arith) (omega arith) (omega arith) (omega arith) kind (H .known))
 
   -- the body stands in the record
   pub body-within : children ≡ 1 → at + 1 < length s

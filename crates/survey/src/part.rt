@@ -11,7 +11,7 @@ use crate::seen::over_prefix;
 use crate::seen::over_restriction;
 ghost use mathlib.Core.Path.{_≡_};
 ghost use mathlib.Core.Bool.{_||_};
-ghost use Prim.Native.Nat.{ℕ, _<_};
+ghost use Prim.Native.Nat.{ℕ, _+_, _<_};
 ghost use Rattle.ccsk.specs.Term.{nil};
 ghost use Rattle.survey.specs.Seen.{Found};
 ghost use Rattle.survey.specs.Over.{OverPrefix, OverRestriction, MoveOfTwo, OverTwo};
@@ -41,8 +41,8 @@ pub fn at_nil() -> Seen
 }
 
 // What is found of the prefix at node n, whose bytes begin at `at`.
-pub fn at_prefix(ask: Ask, at: usize, n: usize, action: u8, key: u16, below: Seen) -> Seen
-    requires { ⌜ below .count < 65536 ⌝ }
+pub fn at_prefix(ask: Ask, at: u16, n: u16, action: u8, key: u16, below: Seen) -> Seen
+    requires { ⌜ below .count < 65535 ⌝ }
     ensures { λ r. ⌜ OverPrefix ask at n action key below r ⌝ }
 {
     let chosen = is_chosen(ask, n, key);
@@ -101,7 +101,7 @@ pub fn two_moves(parallel: bool, one: Seen, other: Seen) -> Move
 
 // What is found of a parallel, or else of a choice, from what is found of its sides.
 pub fn at_two(parallel: bool, one: Seen, other: Seen) -> Seen
-    requires { ⌜ (one .count < 65536) × (other .count < 65536) ⌝ }
+    requires { ⌜ one .count + other .count < 65536 ⌝ }
     ensures { λ r. ⌜ OverTwo parallel one other r ⌝ }
 {
     let moved = two_moves(parallel, one, other);

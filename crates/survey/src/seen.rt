@@ -1,10 +1,11 @@
 // What one pass finds of a part of a record, and how the moves of its parts combine at each node.
+ghost use Prim.Native.Nat.{_<_};
 ghost use mathlib.Core.Path.{_≡_};
 ghost use Rattle.moves.specs.Move.{overPrefix, overChoice, overParallel, overRestriction};
 ghost use Rattle.ccsk.specs.Term.{Co, On};
 ghost use Rattle.survey.specs.Seen.{moveOf, choiceOf, mayOf, Tells};
 
-// Labels (01, The record): tau, the greatest name, and what a co-name adds to its name; as an action that sum alone is none.
+// Labels (01, The record): tau, the greatest name, and what a co-name adds to its name (128 itself is no action).
 const TAU: u8 = 0;
 
 const LAST_NAME: u8 = 127;
@@ -25,8 +26,8 @@ pub enum Move {
 // with the key at the node p, or at the nodes p and q if q is not 0.
 pub struct Ask {
     pub undo: bool,
-    pub p: usize,
-    pub q: usize,
+    pub p: u16,
+    pub q: u16,
     pub key: u16,
 }
 
@@ -35,14 +36,29 @@ pub struct Ask {
 pub struct Seen {
     pub any: bool,
     pub stands: bool,
-    pub count: usize,
-    pub first: usize,
-    pub second: usize,
+    pub count: u16,
+    pub first: u16,
+    pub second: u16,
     pub moved: Move,
 }
 
+// A 16-bit number as an index.
+pub fn wide(x: u16) -> usize
+    ensures { λ r. ⌜ r ≡ x ⌝ }
+{
+    x as usize
+}
+
+// An index that fits 16 bits: findings are kept small, since each level of the pass holds some.
+pub fn narrow(x: usize) -> u16
+    requires { ⌜ x < 65536 ⌝ }
+    ensures { λ r. ⌜ r ≡ x ⌝ }
+{
+    x as u16
+}
+
 // Whether the prefix at node n with this key is one that the step asked about takes.
-pub fn is_chosen(ask: Ask, n: usize, key: u16) -> bool
+pub fn is_chosen(ask: Ask, n: u16, key: u16) -> bool
     ensures { λ r. ⌜ r ≡ choiceOf ask n key ⌝ }
 {
     if ask.undo {

@@ -5,19 +5,25 @@ use Rattle.survey.proofs.pass.at_one.Statement.{statement}
 use Rattle.survey.proofs.pass.at_one.Tie as tie
 
 add-key-of : tie.Need-add-key-of
-add-key-of c = omega arith
+add-key-of c = search needs
 
 shared-slice-read-key-of : tie.Need-shared-slice-read-key-of
 shared-slice-read-key-of c = omega (arith, c .before .before .before .pre .1 (c .before .if1 .taken))
 
 add-key-of-2 : tie.Need-add-key-of-2
-add-key-of-2 c = omega arith
+add-key-of-2 c = search needs
 
 shared-slice-read-key-of-2 : tie.Need-shared-slice-read-key-of-2
 shared-slice-read-key-of-2 c = omega (arith, c .before .before .before .before .pre .1 (c .before .before .if1 .taken))
 
 key-of-requires : tie.Need-key-of-requires
 key-of-requires c κs = search needs
+
+narrow-requires : tie.Need-narrow-requires
+narrow-requires c κs = search needs
+
+narrow-requires-2 : tie.Need-narrow-requires-2
+narrow-requires-2 c κs = search needs
 
 add-at-prefix : tie.Need-add-at-prefix
 add-at-prefix c = search needs
@@ -29,7 +35,7 @@ at-prefix-requires : tie.Need-at-prefix-requires
 at-prefix-requires c κs = search needs
 
 returns : tie.Need-returns
-returns c = record { prefix = λ q t f. rw (← c .before .before .key-of .ensures) (c .at-prefix .ensures t f); restriction = λ q. absurd (q (c .before .before .before .before .before .if1 .taken)) }
+returns c = record { prefix = λ q t. rw (c .before .before .before .narrow .ensures, c .before .before .narrow2 .ensures, c .before .before .before .before .key-of .ensures) at (c .at-prefix .ensures t); restriction = λ q. absurd (q (c .before .before .before .before .before .before .before .if1 .taken)) }
 
 add-at-restriction : tie.Need-add-at-restriction
 add-at-restriction c = search needs
@@ -41,7 +47,7 @@ at-restriction-requires : tie.Need-at-restriction-requires
 at-restriction-requires c κs = search needs
 
 returns-2 : tie.Need-returns-2
-returns-2 c = let a = c .before .before .before .before .args in record { prefix = λ q. absurd (c .before .before .if1 .left q); restriction = λ q t f. c .at-restriction .ensures (a .ask) (a .at) (a .n) t f }
+returns-2 c = record { prefix = λ q. absurd (c .before .before .if1 .left q); restriction = λ q t f. c .at-restriction .ensures (c .before .before .before .before .args .ask) (c .before .before .before .before .args .at) (c .before .before .before .before .args .n) t f }
 
 pub at-one-spec : {M : Type 1} → statement M
 at-one-spec =
@@ -52,6 +58,8 @@ at-one-spec =
     add-key-of-2
     shared-slice-read-key-of-2
     key-of-requires
+    narrow-requires
+    narrow-requires-2
     add-at-prefix
     shared-slice-read-at-prefix
     at-prefix-requires
