@@ -10,7 +10,7 @@ use Rattle.ccsk.specs.Term.{Term, nil, pre, cho, par, res, Has, labels, size}
 use Rattle.ccsk.proofs.Basic.{never, labels-same, labels-other, labels-fresh}
 use Rattle.sound.specs.Sound.{count, Twice, Apart, Split, Above, Before, Chain, one, more, Ordered}
 use Rattle.sound.proofs.Order.{above-low}
-use Rattle.causes.specs.Entry.{Entry, Scopes, under, open-scopes, entries, all}
+use Rattle.causes.specs.Entry.{Entry, Scopes, under, open-scopes, marked, entries, all}
 use Rattle.causes.specs.Tests.{Leads, Acyclic}
 
 -- chains
@@ -41,60 +41,60 @@ leads-either (e ∷ x) y m n (inl i) = inl (inl i)
 leads-either (e ∷ x) y m n (inr i) = ⊎-elim (λ j. inl (inr j)) inr (leads-either x y m n i)
 
 -- a lead goes from the key above the term to one inside, or is between two keys of the term
-leads-above : (n u : ℕ) (s : Scopes) (t : Term) (m k : ℕ) → Leads (entries n u s t) m k → ((m ≡ u) × Has k t) ⊎ Above m k t
+leads-above : (n row u : ℕ) (s : Scopes) (t : Term) (m k : ℕ) → Leads (entries n row u s t) m k → ((m ≡ u) × Has k t) ⊎ Above m k t
 unfolding entries
-leads-above n u s nil m k i = absurd i
-leads-above n u s (pre a zero t) m k i = ⊎-elim (λ z. inl (z .0, inr (z .1))) (λ z. inr (inr z)) (leads-above (suc n) u s t m k i)
-leads-above n u s (pre a (suc j) t) m k (inl i) = inl (i .1, inl (i .2))
-leads-above n u s (pre a (suc j) t) m k (inr i) = ⊎-elim (λ z. inr (inl z)) (λ z. inr (inr z)) (leads-above (suc n) (suc j) s t m k i)
-leads-above n u s (cho t r) m k i = ⊎-elim
-    (λ z. ⊎-elim (λ v. inl (v .0, inl (v .1))) (λ v. inr (inl v)) (leads-above (suc n) u s t m k z))
-    (λ z. ⊎-elim (λ v. inl (v .0, inr (v .1))) (λ v. inr (inr v)) (leads-above (suc n + size t) u s r m k z))
-    (leads-either (entries (suc n) u s t) (entries (suc n + size t) u s r) m k i)
-leads-above n u s (par t r) m k i = ⊎-elim
-    (λ z. ⊎-elim (λ v. inl (v .0, inl (v .1))) (λ v. inr (inl v)) (leads-above (suc n) u s t m k z))
-    (λ z. ⊎-elim (λ v. inl (v .0, inr (v .1))) (λ v. inr (inr v)) (leads-above (suc n + size t) u s r m k z))
-    (leads-either (entries (suc n) u s t) (entries (suc n + size t) u s r) m k i)
-leads-above n u s (res a t) m k i = leads-above (suc n) u (under a n s) t m k i
+leads-above n row u s nil m k i = absurd i
+leads-above n row u s (pre a zero t) m k i = ⊎-elim (λ z. inl (z .0, inr (z .1))) (λ z. inr (inr z)) (leads-above (suc n) row u s t m k i)
+leads-above n row u s (pre a (suc j) t) m k (inl i) = inl (i .1, inl (i .2))
+leads-above n row u s (pre a (suc j) t) m k (inr i) = ⊎-elim (λ z. inr (inl z)) (λ z. inr (inr z)) (leads-above (suc n) (suc row) (suc j) s t m k i)
+leads-above n row u s (cho t r) m k i = ⊎-elim
+    (λ z. ⊎-elim (λ v. inl (v .0, inl (v .1))) (λ v. inr (inl v)) (leads-above (suc n) row u s t m k z))
+    (λ z. ⊎-elim (λ v. inl (v .0, inr (v .1))) (λ v. inr (inr v)) (leads-above (suc n + size t) (row + marked t) u s r m k z))
+    (leads-either (entries (suc n) row u s t) (entries (suc n + size t) (row + marked t) u s r) m k i)
+leads-above n row u s (par t r) m k i = ⊎-elim
+    (λ z. ⊎-elim (λ v. inl (v .0, inl (v .1))) (λ v. inr (inl v)) (leads-above (suc n) row u s t m k z))
+    (λ z. ⊎-elim (λ v. inl (v .0, inr (v .1))) (λ v. inr (inr v)) (leads-above (suc n + size t) (row + marked t) u s r m k z))
+    (leads-either (entries (suc n) row u s t) (entries (suc n + size t) (row + marked t) u s r) m k i)
+leads-above n row u s (res a t) m k i = leads-above (suc n) row u (under a n s) t m k i
 
 -- both keys of a lead are above 0
-leads-pos : (n u : ℕ) (s : Scopes) (t : Term) (m k : ℕ) → Leads (entries n u s t) m k → (0 < m) × (0 < k)
+leads-pos : (n row u : ℕ) (s : Scopes) (t : Term) (m k : ℕ) → Leads (entries n row u s t) m k → (0 < m) × (0 < k)
 unfolding entries
-leads-pos n u s nil m k i = absurd i
-leads-pos n u s (pre a zero t) m k i = leads-pos (suc n) u s t m k i
-leads-pos n u s (pre a (suc j) t) m k (inl i) = (i .0, omega arith)
-leads-pos n u s (pre a (suc j) t) m k (inr i) = leads-pos (suc n) (suc j) s t m k i
-leads-pos n u s (cho t r) m k i = ⊎-elim (leads-pos (suc n) u s t m k) (leads-pos (suc n + size t) u s r m k) (leads-either (entries (suc n) u s t) (entries (suc n + size t) u s r) m k i)
-leads-pos n u s (par t r) m k i = ⊎-elim (leads-pos (suc n) u s t m k) (leads-pos (suc n + size t) u s r m k) (leads-either (entries (suc n) u s t) (entries (suc n + size t) u s r) m k i)
-leads-pos n u s (res a t) m k i = leads-pos (suc n) u (under a n s) t m k i
+leads-pos n row u s nil m k i = absurd i
+leads-pos n row u s (pre a zero t) m k i = leads-pos (suc n) row u s t m k i
+leads-pos n row u s (pre a (suc j) t) m k (inl i) = (i .0, omega arith)
+leads-pos n row u s (pre a (suc j) t) m k (inr i) = leads-pos (suc n) (suc row) (suc j) s t m k i
+leads-pos n row u s (cho t r) m k i = ⊎-elim (leads-pos (suc n) row u s t m k) (leads-pos (suc n + size t) (row + marked t) u s r m k) (leads-either (entries (suc n) row u s t) (entries (suc n + size t) (row + marked t) u s r) m k i)
+leads-pos n row u s (par t r) m k i = ⊎-elim (leads-pos (suc n) row u s t m k) (leads-pos (suc n + size t) (row + marked t) u s r m k) (leads-either (entries (suc n) row u s t) (entries (suc n + size t) (row + marked t) u s r) m k i)
+leads-pos n row u s (res a t) m k i = leads-pos (suc n) row u (under a n s) t m k i
 
 -- from the key above a term a chain leads to each key inside
-down : (n u : ℕ) (s : Scopes) (t : Term) (k : ℕ) → 0 < u → 0 < k → Has k t → Chain (Leads (entries n u s t)) u k
+down : (n row u : ℕ) (s : Scopes) (t : Term) (k : ℕ) → 0 < u → 0 < k → Has k t → Chain (Leads (entries n row u s t)) u k
 unfolding entries
-down n u s nil k p q i = absurd i
-down n u s (pre a zero t) k p q (inl e) = never q e
-down n u s (pre a zero t) k p q (inr i) = down (suc n) u s t k p q i
-down n u s (pre a (suc j) t) k p q (inl e) = one (inl (p, refl, e))
-down n u s (pre a (suc j) t) k p q (inr i) = chain-join (one {n = suc j} (inl (p, refl, refl))) (chain-map (λ x y z. inr z) (down (suc n) (suc j) s t k (omega arith) q i))
-down n u s (cho t r) k p q (inl i) = chain-map (leads-left (entries (suc n) u s t) (entries (suc n + size t) u s r)) (down (suc n) u s t k p q i)
-down n u s (cho t r) k p q (inr i) = chain-map (leads-right (entries (suc n) u s t) (entries (suc n + size t) u s r)) (down (suc n + size t) u s r k p q i)
-down n u s (par t r) k p q (inl i) = chain-map (leads-left (entries (suc n) u s t) (entries (suc n + size t) u s r)) (down (suc n) u s t k p q i)
-down n u s (par t r) k p q (inr i) = chain-map (leads-right (entries (suc n) u s t) (entries (suc n + size t) u s r)) (down (suc n + size t) u s r k p q i)
-down n u s (res a t) k p q i = down (suc n) u (under a n s) t k p q i
+down n row u s nil k p q i = absurd i
+down n row u s (pre a zero t) k p q (inl e) = never q e
+down n row u s (pre a zero t) k p q (inr i) = down (suc n) row u s t k p q i
+down n row u s (pre a (suc j) t) k p q (inl e) = one (inl (p, refl, e))
+down n row u s (pre a (suc j) t) k p q (inr i) = chain-join (one {n = suc j} (inl (p, refl, refl))) (chain-map (λ x y z. inr z) (down (suc n) (suc row) (suc j) s t k (omega arith) q i))
+down n row u s (cho t r) k p q (inl i) = chain-map (leads-left (entries (suc n) row u s t) (entries (suc n + size t) (row + marked t) u s r)) (down (suc n) row u s t k p q i)
+down n row u s (cho t r) k p q (inr i) = chain-map (leads-right (entries (suc n) row u s t) (entries (suc n + size t) (row + marked t) u s r)) (down (suc n + size t) (row + marked t) u s r k p q i)
+down n row u s (par t r) k p q (inl i) = chain-map (leads-left (entries (suc n) row u s t) (entries (suc n + size t) (row + marked t) u s r)) (down (suc n) row u s t k p q i)
+down n row u s (par t r) k p q (inr i) = chain-map (leads-right (entries (suc n) row u s t) (entries (suc n + size t) (row + marked t) u s r)) (down (suc n + size t) (row + marked t) u s r k p q i)
+down n row u s (res a t) k p q i = down (suc n) row u (under a n s) t k p q i
 
 -- from a key a chain leads to each that stands below it
-above-chain : (n u : ℕ) (s : Scopes) (t : Term) (m k : ℕ) → 0 < m → 0 < k → Above m k t → Chain (Leads (entries n u s t)) m k
+above-chain : (n row u : ℕ) (s : Scopes) (t : Term) (m k : ℕ) → 0 < m → 0 < k → Above m k t → Chain (Leads (entries n row u s t)) m k
 unfolding entries
-above-chain n u s nil m k p q i = absurd i
-above-chain n u s (pre a zero t) m k p q (inl i) = never p (i .0)
-above-chain n u s (pre a zero t) m k p q (inr i) = above-chain (suc n) u s t m k p q i
-above-chain n u s (pre a (suc j) t) m k p q (inl i) = rw (i .0) (chain-map (λ x y z. inr z) (down (suc n) (suc j) s t k (omega arith) q (i .1)))
-above-chain n u s (pre a (suc j) t) m k p q (inr i) = chain-map (λ x y z. inr z) (above-chain (suc n) (suc j) s t m k p q i)
-above-chain n u s (cho t r) m k p q (inl i) = chain-map (leads-left (entries (suc n) u s t) (entries (suc n + size t) u s r)) (above-chain (suc n) u s t m k p q i)
-above-chain n u s (cho t r) m k p q (inr i) = chain-map (leads-right (entries (suc n) u s t) (entries (suc n + size t) u s r)) (above-chain (suc n + size t) u s r m k p q i)
-above-chain n u s (par t r) m k p q (inl i) = chain-map (leads-left (entries (suc n) u s t) (entries (suc n + size t) u s r)) (above-chain (suc n) u s t m k p q i)
-above-chain n u s (par t r) m k p q (inr i) = chain-map (leads-right (entries (suc n) u s t) (entries (suc n + size t) u s r)) (above-chain (suc n + size t) u s r m k p q i)
-above-chain n u s (res a t) m k p q i = above-chain (suc n) u (under a n s) t m k p q i
+above-chain n row u s nil m k p q i = absurd i
+above-chain n row u s (pre a zero t) m k p q (inl i) = never p (i .0)
+above-chain n row u s (pre a zero t) m k p q (inr i) = above-chain (suc n) row u s t m k p q i
+above-chain n row u s (pre a (suc j) t) m k p q (inl i) = rw (i .0) (chain-map (λ x y z. inr z) (down (suc n) (suc row) (suc j) s t k (omega arith) q (i .1)))
+above-chain n row u s (pre a (suc j) t) m k p q (inr i) = chain-map (λ x y z. inr z) (above-chain (suc n) (suc row) (suc j) s t m k p q i)
+above-chain n row u s (cho t r) m k p q (inl i) = chain-map (leads-left (entries (suc n) row u s t) (entries (suc n + size t) (row + marked t) u s r)) (above-chain (suc n) row u s t m k p q i)
+above-chain n row u s (cho t r) m k p q (inr i) = chain-map (leads-right (entries (suc n) row u s t) (entries (suc n + size t) (row + marked t) u s r)) (above-chain (suc n + size t) (row + marked t) u s r m k p q i)
+above-chain n row u s (par t r) m k p q (inl i) = chain-map (leads-left (entries (suc n) row u s t) (entries (suc n + size t) (row + marked t) u s r)) (above-chain (suc n) row u s t m k p q i)
+above-chain n row u s (par t r) m k p q (inr i) = chain-map (leads-right (entries (suc n) row u s t) (entries (suc n + size t) (row + marked t) u s r)) (above-chain (suc n + size t) (row + marked t) u s r m k p q i)
+above-chain n row u s (res a t) m k p q i = above-chain (suc n) row u (under a n s) t m k p q i
 
 -- how often a key stands that stands somewhere, that stands on two sides, that stands below itself
 has-count : (m : ℕ) (t : Term) → Has m t → 1 ≤ count m t
@@ -168,12 +168,12 @@ irreflexive : (t : Term) → Twice t → Split t → (m : ℕ) → 0 < m → ¬ 
 irreflexive t w s m h i = self-apart m t (w m h) i (s m h (let c = self-count m t i in let z = w m h in omega arith))
 
 leads-before : (t : Term) → Twice t → Split t → (m k : ℕ) → Leads (all t) m k → Before t m k
-leads-before t w s m k i = let p = leads-pos 0 0 open-scopes t m k i in
-    pick p (⊎-elim (λ z. never (p .0) (z .0)) (λ z. z) (leads-above 0 0 open-scopes t m k i))
+leads-before t w s m k i = let p = leads-pos 0 0 0 open-scopes t m k i in
+    pick p (⊎-elim (λ z. never (p .0) (z .0)) (λ z. z) (leads-above 0 0 0 open-scopes t m k i))
   where
     pick : (0 < m) × (0 < k) → Above m k t → Before t m k
     pick p b = (p .0, p .1, (λ e. irreflexive t w s m (p .0) (rw (← e) at b)), b)
 
 -- condition 7
 pub ordered-by-entries : (t : Term) → Twice t → Split t → Ordered t ↔ Acyclic (all t)
-ordered-by-entries t w s = (λ o m c. o m (chain-map (leads-before t w s) c), λ o m c. o m (chain-bind (λ x y b. above-chain 0 0 open-scopes t x y (b .0) (b .1) (b .3)) c))
+ordered-by-entries t w s = (λ o m c. o m (chain-map (leads-before t w s) c), λ o m c. o m (chain-bind (λ x y b. above-chain 0 0 0 open-scopes t x y (b .0) (b .1) (b .3)) c))

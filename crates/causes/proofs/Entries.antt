@@ -13,7 +13,7 @@ use Rattle.ccsk.specs.Term.{Term, nil, pre, cho, par, res, Std, Has, Co, On, Ch
 use Rattle.ccsk.proofs.Basic.{fresh-labels, labels-fresh, std-labels}
 use Rattle.ccsk.proofs.Decide.{on?}
 use Rattle.sound.specs.Sound.{count}
-use Rattle.causes.specs.Entry.{Entry, Scopes, nearest, under, entries, keep, only}
+use Rattle.causes.specs.Entry.{Entry, Scopes, nearest, under, marked, entries, keep, only}
 
 -- only
 pub only-append : (m : ℕ) (x y : List Entry) → only m (x ++ y) ≡ only m x ++ only m y
@@ -54,17 +54,17 @@ actions-keep true e l = refl
 actions-keep false e l = refl
 
 -- the labels that a key marks are the actions of its entries
-pub labels-entries : (m n u : ℕ) (s : Scopes) (t : Term) → 0 < m → labels m t ≡ actions (only m (entries n u s t))
+pub labels-entries : (m n row u : ℕ) (s : Scopes) (t : Term) → 0 < m → labels m t ≡ actions (only m (entries n row u s t))
 unfolding labels entries only actions
-labels-entries m n u s nil h = refl
-labels-entries m n u s (pre a zero t) h = rw (ne-eqb m 0 (λ e. omega arith)) (labels-entries m (suc n) u s t h)
-labels-entries m n u s (pre a (suc k) t) h = rw (labels-entries m (suc n) (suc k) s t h, actions-keep (eqb m (suc k)))
-labels-entries m n u s (cho t r) h = rw (only-append m (entries (suc n) u s t) (entries (suc n + size t) u s r), actions-append, labels-entries m (suc n) u s t h, labels-entries m (suc n + size t) u s r h)
-labels-entries m n u s (par t r) h = rw (only-append m (entries (suc n) u s t) (entries (suc n + size t) u s r), actions-append, labels-entries m (suc n) u s t h, labels-entries m (suc n + size t) u s r h)
-labels-entries m n u s (res a t) h = labels-entries m (suc n) u (under a n s) t h
+labels-entries m n row u s nil h = refl
+labels-entries m n row u s (pre a zero t) h = rw (ne-eqb m 0 (λ e. omega arith)) (labels-entries m (suc n) row u s t h)
+labels-entries m n row u s (pre a (suc k) t) h = rw (labels-entries m (suc n) (suc row) (suc k) s t h, actions-keep (eqb m (suc k)))
+labels-entries m n row u s (cho t r) h = rw (only-append m (entries (suc n) row u s t) (entries (suc n + size t) (row + marked t) u s r), actions-append, labels-entries m (suc n) row u s t h, labels-entries m (suc n + size t) (row + marked t) u s r h)
+labels-entries m n row u s (par t r) h = rw (only-append m (entries (suc n) row u s t) (entries (suc n + size t) (row + marked t) u s r), actions-append, labels-entries m (suc n) row u s t h, labels-entries m (suc n + size t) (row + marked t) u s r h)
+labels-entries m n row u s (res a t) h = labels-entries m (suc n) row u (under a n s) t h
 
-pub count-entries : (m n u : ℕ) (s : Scopes) (t : Term) → 0 < m → count m t ≡ length (only m (entries n u s t))
-count-entries m n u s t h = ap length (labels-entries m n u s t h) ∙ actions-length (only m (entries n u s t))
+pub count-entries : (m n row u : ℕ) (s : Scopes) (t : Term) → 0 < m → count m t ≡ length (only m (entries n row u s t))
+count-entries m n row u s t h = ap length (labels-entries m n row u s t h) ∙ actions-length (only m (entries n row u s t))
 
 -- something that holds of every entry of a list
 abbrev pub Every : (Entry → Type 0) → List Entry → Type 0
@@ -88,22 +88,24 @@ every-only P m (e ∷ l) p = pick (eqb m (e .key)) (every-only P m l (p .1))
     pick true q = (p .0, q)
     pick false q = q
 
--- where an entry of a term stands whose root is node n and that ends before node b
+-- in which rows an entry of a term stands that has the rows from i up to b
 abbrev pub Within : ℕ → ℕ → Entry → Type 0
-Within n b e = (n ≤ e .node) × (e .node < e .end) × (e .end ≤ b)
+Within i b e = (i ≤ e .row) × (e .row < e .end) × (e .end ≤ b)
 
--- the entries of two sides, the first from node n to c, the second from c to b
-beside : (n c b : ℕ) (x y : List Entry) → n < c → c ≤ b → Every (Within (suc n) c) x → Every (Within c b) y → Every (Within n b) (x ++ y)
-beside n c b x y h k p q = every-append (Within n b) x y (every-map (Within (suc n) c) (Within n b) x (λ e z. omega arith) p) (every-map (Within c b) (Within n b) y (λ e z. omega arith) q)
+pub widen-rows : (i j b d : ℕ) (l : List Entry) → j ≤ i → b ≤ d → Every (Within i b) l → Every (Within j d) l
+widen-rows i j b d l h k p = every-map (Within i b) (Within j d) l (λ e z. omega arith) p
 
-below : (n b : ℕ) (l : List Entry) → Every (Within (suc n) b) l → Every (Within n b) l
-below n b l p = every-map (Within (suc n) b) (Within n b) l (λ e z. omega arith) p
+sides : (n row u b : ℕ) (s : Scopes) (t r : Term) → row + (marked t + marked r) ≤ b → Every (Within row (row + marked t)) (entries (suc n) row u s t)
+    → Every (Within (row + marked t) b) (entries (suc n + size t) (row + marked t) u s r) → Every (Within row b) (entries (suc n) row u s t ++ entries (suc n + size t) (row + marked t) u s r)
+sides n row u b s t r h p q = every-append (Within row b) (entries (suc n) row u s t) (entries (suc n + size t) (row + marked t) u s r)
+    (widen-rows row row (row + marked t) b (entries (suc n) row u s t) (omega arith) (omega arith) p)
+    (widen-rows (row + marked t) row b b (entries (suc n + size t) (row + marked t) u s r) (omega arith) (omega arith) q)
 
-pub within : (n u b : ℕ) (s : Scopes) (t : Term) → n + size t ≤ b → Every (Within n b) (entries n u s t)
-unfolding entries size
-within n u b s nil h = tt
-within n u b s (pre a zero t) h = below n b (entries (suc n) u s t) (within (suc n) u b s t (omega arith))
-within n u b s (pre a (suc k) t) h = (omega arith, below n b (entries (suc n) (suc k) s t) (within (suc n) (suc k) b s t (omega arith)))
-within n u b s (cho t r) h = beside n (suc n + size t) b (entries (suc n) u s t) (entries (suc n + size t) u s r) (omega arith) (omega arith) (within (suc n) u (suc n + size t) s t (omega arith)) (within (suc n + size t) u b s r (omega arith))
-within n u b s (par t r) h = beside n (suc n + size t) b (entries (suc n) u s t) (entries (suc n + size t) u s r) (omega arith) (omega arith) (within (suc n) u (suc n + size t) s t (omega arith)) (within (suc n + size t) u b s r (omega arith))
-within n u b s (res a t) h = below n b (entries (suc n) u (under a n s) t) (within (suc n) u b (under a n s) t (omega arith))
+pub within : (n row u b : ℕ) (s : Scopes) (t : Term) → row + marked t ≤ b → Every (Within row b) (entries n row u s t)
+unfolding entries marked
+within n row u b s nil h = tt
+within n row u b s (pre a zero t) h = within (suc n) row u b s t h
+within n row u b s (pre a (suc k) t) h = (omega arith, widen-rows (suc row) row b b (entries (suc n) (suc row) (suc k) s t) (omega arith) (omega arith) (within (suc n) (suc row) (suc k) b s t (omega arith)))
+within n row u b s (cho t r) h = sides n row u b s t r h (within (suc n) row u (row + marked t) s t (omega arith)) (within (suc n + size t) (row + marked t) u b s r (omega arith))
+within n row u b s (par t r) h = sides n row u b s t r h (within (suc n) row u (row + marked t) s t (omega arith)) (within (suc n + size t) (row + marked t) u b s r (omega arith))
+within n row u b s (res a t) h = within (suc n) row u b (under a n s) t h

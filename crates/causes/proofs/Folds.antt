@@ -6,7 +6,7 @@ use mathlib.Core.Bool.{Bool, true, false, not, _&&_, _||_, false≢true}
 use Prim.Native.Nat.{ℕ, zero, suc, _+_}
 use Rattle.ccsk.specs.Term.{Term, nil, pre, cho, par, res, Std, size}
 use Rattle.sound.specs.Sound.{Waits, Chosen}
-use Rattle.causes.specs.Entry.{Entry, Scopes, under, entries}
+use Rattle.causes.specs.Entry.{Entry, Scopes, under, marked, entries}
 use Rattle.causes.specs.Tests.{holds, waits, chosen}
 
 -- The test b tells A from B: true means A, false means B.
@@ -85,11 +85,11 @@ some-append : (x y : List Entry) → some (x ++ y) ≡ some x || some y
 some-append [] y = refl
 some-append (e ∷ x) y = refl
 
-pub holds-entries : (n u : ℕ) (s : Scopes) (t : Term) → holds t ≡ some (entries n u s t)
+pub holds-entries : (n row u : ℕ) (s : Scopes) (t : Term) → holds t ≡ some (entries n row u s t)
 unfolding holds entries
-holds-entries n u s nil = refl
-holds-entries n u s (pre a zero t) = holds-entries (suc n) u s t
-holds-entries n u s (pre a (suc k) t) = refl
-holds-entries n u s (cho t r) = rw (some-append (entries (suc n) u s t) (entries (suc n + size t) u s r), holds-entries (suc n) u s t, holds-entries (suc n + size t) u s r)
-holds-entries n u s (par t r) = rw (some-append (entries (suc n) u s t) (entries (suc n + size t) u s r), holds-entries (suc n) u s t, holds-entries (suc n + size t) u s r)
-holds-entries n u s (res a t) = holds-entries (suc n) u (under a n s) t
+holds-entries n row u s nil = refl
+holds-entries n row u s (pre a zero t) = holds-entries (suc n) row u s t
+holds-entries n row u s (pre a (suc k) t) = refl
+holds-entries n row u s (cho t r) = rw (some-append (entries (suc n) row u s t) (entries (suc n + size t) (row + marked t) u s r), holds-entries (suc n) row u s t, holds-entries (suc n + size t) (row + marked t) u s r)
+holds-entries n row u s (par t r) = rw (some-append (entries (suc n) row u s t) (entries (suc n + size t) (row + marked t) u s r), holds-entries (suc n) row u s t, holds-entries (suc n + size t) (row + marked t) u s r)
+holds-entries n row u s (res a t) = holds-entries (suc n) row u (under a n s) t

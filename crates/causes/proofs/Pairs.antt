@@ -14,7 +14,7 @@ use Rattle.causes.proofs.Entries.{actions, labels-entries, count-entrie
 
 -- condition 3
 pub twice-by-entries : (t : Term) → Twice t ↔ EachKey AtMostTwo (all t)
-twice-by-entries t = (λ w m h. rw (count-entries m 0 0 open-scopes t h) at (w m h), λ w m h. rw (count-entries m 0 0 open-scopes t h) (w m h))
+twice-by-entries t = (λ w m h. rw (count-entries m 0 0 0 open-scopes t h) at (w m h), λ w m h. rw (count-entries m 0 0 0 open-scopes t h) (w m h))
 
 two-complements : (l : List Entry) → Two (actions l) → Complements l
 unfolding actions
@@ -35,4 +35,4 @@ complements-two (e ∷ (g ∷ (i ∷ l))) c = not-two (λ e. omega arith)
 
 -- condition 4
 pub paired-by-entries : (t : Term) → Paired t ↔ EachKey Complements (all t)
-paired-by-entries t = (λ w m h. two-complements (only m (all t)) (rw (labels-entries m 0 0 open-scopes t h) at (w m h)), λ w m h. rw (labels-entries m 0 0 open-scopes t h) (complements-two (only m (all t)) (w m h)))
+paired-by-entries t = (λ w m h. two-complements (only m (all t)) (rw (labels-entries m 0 0 0 open-scopes t h) at (w m h)), λ w m h. rw (labels-entries m 0 0 0 open-scopes t h) (complements-two (only m (all t)) (w m h)))

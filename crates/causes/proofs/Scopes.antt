@@ -12,7 +12,7 @@ use Rattle.ccsk.specs.Term.{Term, nil, pre, cho, par, res, Co, On, Channel, lab
 use Rattle.ccsk.proofs.Basic.{co-sym}
 use Rattle.ccsk.proofs.Decide.{on?}
 use Rattle.sound.specs.Sound.{count, Twice, Paired, Hidden}
-use Rattle.causes.specs.Entry.{Entry, Scopes, nearest, under, open-scopes, entries, all, only}
+use Rattle.causes.specs.Entry.{Entry, Scopes, nearest, under, open-scopes, marked, entries, all, only}
 use Rattle.causes.specs.Tests.{EachKey, AtMostTwo, Complements, Enclosed}
 use Rattle.causes.proofs.Entries.{Every, every-append, every-map, every-only, only-append, only-same, only-other, actions, labels-entries, count-entries}
 use Rattle.causes.proofs.Pairs.{twice-by-entries, paired-by-entries}
@@ -78,18 +78,18 @@ leave n b a s l p = every-map (Reach (suc n) b (under a n s)) (Reach n b s) l (�
     out e (no o) (inl q, z) = (inl (q ∙ under-off a n s (e .action) o), z)
     out e d (inr q, z) = (inr (omega arith), z)
 
-reach : (n u b : ℕ) (s : Scopes) (t : Term) → Proper n s → n + size t ≤ b → Every (Reach n b s) (entries n u s t)
+reach : (n row u b : ℕ) (s : Scopes) (t : Term) → Proper n s → n + size t ≤ b → Every (Reach n b s) (entries n row u s t)
 unfolding entries size
-reach n u b s nil p h = tt
-reach n u b s (pre a zero t) p h = widen n (suc n) b b s (entries (suc n) u s t) (omega arith) (omega arith) (reach (suc n) u b s t (later (suc n) (omega arith) p) (omega arith))
-reach n u b s (pre a (suc k) t) p h = ((inl refl, let z = p .past a in omega arith), widen n (suc n) b b s (entries (suc n) (suc k) s t) (omega arith) (omega arith) (reach (suc n) (suc k) b s t (later (suc n) (omega arith) p) (omega arith)))
-reach n u b s (cho t r) p h = every-append (Reach n b s) (entries (suc n) u s t) (entries (suc n + size t) u s r)
-    (widen n (suc n) (suc n + size t) b s (entries (suc n) u s t) (omega arith) (omega arith) (reach (suc n) u (suc n + size t) s t (later (suc n) (omega arith) p) (omega arith)))
-    (widen n (suc n + size t) b b s (entries (suc n + size t) u s r) (omega arith) (omega arith) (reach (suc n + size t) u b s r (later (suc n + size t) (omega arith) p) (omega arith)))
-reach n u b s (par t r) p h = every-append (Reach n b s) (entries (suc n) u s t) (entries (suc n + size t) u s r)
-    (widen n (suc n) (suc n + size t) b s (entries (suc n) u s t) (omega arith) (omega arith) (reach (suc n) u (suc n + size t) s t (later (suc n) (omega arith) p) (omega arith)))
-    (widen n (suc n + size t) b b s (entries (suc n + size t) u s r) (omega arith) (omega arith) (reach (suc n + size t) u b s r (later (suc n + size t) (omega arith) p) (omega arith)))
-reach n u b s (res a t) p h = leave n b a s (entries (suc n) u (under a n s) t) (reach (suc n) u b (under a n s) t (deeper a p) (omega arith))
+reach n row u b s nil p h = tt
+reach n row u b s (pre a zero t) p h = widen n (suc n) b b s (entries (suc n) row u s t) (omega arith) (omega arith) (reach (suc n) row u b s t (later (suc n) (omega arith) p) (omega arith))
+reach n row u b s (pre a (suc k) t) p h = ((inl refl, let z = p .past a in omega arith), widen n (suc n) b b s (entries (suc n) (suc row) (suc k) s t) (omega arith) (omega arith) (reach (suc n) (suc row) (suc k) b s t (later (suc n) (omega arith) p) (omega arith)))
+reach n row u b s (cho t r) p h = every-append (Reach n b s) (entries (suc n) row u s t) (entries (suc n + size t) (row + marked t) u s r)
+    (widen n (suc n) (suc n + size t) b s (entries (suc n) row u s t) (omega arith) (omega arith) (reach (suc n) row u (suc n + size t) s t (later (suc n) (omega arith) p) (omega arith)))
+    (widen n (suc n + size t) b b s (entries (suc n + size t) (row + marked t) u s r) (omega arith) (omega arith) (reach (suc n + size t) (row + marked t) u b s r (later (suc n + size t) (omega arith) p) (omega arith)))
+reach n row u b s (par t r) p h = every-append (Reach n b s) (entries (suc n) row u s t) (entries (suc n + size t) (row + marked t) u s r)
+    (widen n (suc n) (suc n + size t) b s (entries (suc n) row u s t) (omega arith) (omega arith) (reach (suc n) row u (suc n + size t) s t (later (suc n) (omega arith) p) (omega arith)))
+    (widen n (suc n + size t) b b s (entries (suc n + size t) (row + marked t) u s r) (omega arith) (omega arith) (reach (suc n + size t) (row + marked t) u b s r (later (suc n + size t) (omega arith) p) (omega arith)))
+reach n row u b s (res a t) p h = leave n b a s (entries (suc n) row u (under a n s) t) (reach (suc n) row u b (under a n s) t (deeper a p) (omega arith))
 
 -- what is asked of the entries of a key inside a term whose root is node n
 abbrev Scoped : ℕ → List Entry → Type 0
@@ -191,22 +191,22 @@ inner n b a s (e ∷ (g ∷ (i ∷ x))) p f r = absurd f
 each : {P Q : ℕ → Type 0} → ((m : ℕ) → 0 < m → P m ↔ Q m) → ((m : ℕ) → 0 < m → P m) ↔ ((m : ℕ) → 0 < m → Q m)
 each f = (λ p m h. f m h .0 (p m h), λ q m h. f m h .1 (q m h))
 
-module _ (n u : ℕ) (s : Scopes) (p : Proper n s) where
+module _ (n row u : ℕ) (s : Scopes) (p : Proper n s) where
   -- one side of a term that has two
-  two-sides : (t r : Term) → ((m : ℕ) → 0 < m → Fit (only m (entries (suc n) u s t ++ entries (suc n + size t) u s r)))
-      → (((m : ℕ) → 0 < m → Fit (only m (entries (suc n) u s t))) → Hidden t ↔ ((m : ℕ) → 0 < m → Scoped (suc n) (only m (entries (suc n) u s t))))
-      → (((m : ℕ) → 0 < m → Fit (only m (entries (suc n + size t) u s r))) → Hidden r ↔ ((m : ℕ) → 0 < m → Scoped (suc n + size t) (only m (entries (suc n + size t) u s r))))
-      → Hidden t × Hidden r ↔ ((m : ℕ) → 0 < m → Scoped n (only m (entries (suc n) u s t ++ entries (suc n + size t) u s r)))
+  two-sides : (t r : Term) → ((m : ℕ) → 0 < m → Fit (only m (entries (suc n) row u s t ++ entries (suc n + size t) (row + marked t) u s r)))
+      → (((m : ℕ) → 0 < m → Fit (only m (entries (suc n) row u s t))) → Hidden t ↔ ((m : ℕ) → 0 < m → Scoped (suc n) (only m (entries (suc n) row u s t))))
+      → (((m : ℕ) → 0 < m → Fit (only m (entries (suc n + size t) (row + marked t) u s r))) → Hidden r ↔ ((m : ℕ) → 0 < m → Scoped (suc n + size t) (only m (entries (suc n + size t) (row + marked t) u s r))))
+      → Hidden t × Hidden r ↔ ((m : ℕ) → 0 < m → Scoped n (only m (entries (suc n) row u s t ++ entries (suc n + size t) (row + marked t) u s r)))
   two-sides t r f i j = (λ z m h. joined m h .0 (i x-fit .0 (z .0) m h, j y-fit .0 (z .1) m h), λ z. (i x-fit .1 (λ m h. joined m h .1 (z m h) .0), j y-fit .1 (λ m h. joined m h .1 (z m h) .1)))
     where
       c : ℕ
       c = suc n + size t
 
       x : List Entry
-      x = entries (suc n) u s t
+      x = entries (suc n) row u s t
 
       y : List Entry
-      y = entries c u s r
+      y = entries c (row + marked t) u s r
 
       fits : (m : ℕ) → 0 < m → Fit (only m x ++ only m y)
       fits m h = rw (only-append m x y) at (f m h)
@@ -219,25 +219,25 @@ module _ (n u : ℕ) (s : Scopes) (p : Proper n s) where
 
       joined : (m : ℕ) → 0 < m → Scoped (suc n) (only m x) × Scoped c (only m y) ↔ Scoped n (only m (x ++ y))
       joined m h = rw (only-append m x y) (sides n c (c + size r) s (only m x) (only m y) p (omega arith) (fits m h)
-          (every-only (Reach (suc n) c s) m x (reach (suc n) u c s t (later (suc n) (omega arith) p) (omega arith)))
-          (every-only (Reach c (c + size r) s) m y (reach c u (c + size r) s r (later c (omega arith) p) (omega arith))))
+          (every-only (Reach (suc n) c s) m x (reach (suc n) row u c s t (later (suc n) (omega arith) p) (omega arith)))
+          (every-only (Reach c (c + size r) s) m y (reach c (row + marked t) u (c + size r) s r (later c (omega arith) p) (omega arith))))
 
 -- the entries of each key of a term are scoped exactly if condition 6 holds in the term
-hidden-scoped : (n u : ℕ) (s : Scopes) (t : Term) → Proper n s → ((m : ℕ) → 0 < m → Fit (only m (entries n u s t))) → Hidden t ↔ ((m : ℕ) → 0 < m → Scoped n (only m (entries n u s t)))
+hidden-scoped : (n row u : ℕ) (s : Scopes) (t : Term) → Proper n s → ((m : ℕ) → 0 < m → Fit (only m (entries n row u s t))) → Hidden t ↔ ((m : ℕ) → 0 < m → Scoped n (only m (entries n row u s t)))
 unfolding entries only
-hidden-scoped n u s nil p f = (λ z m h. tt, λ z. tt)
-hidden-scoped n u s (pre a zero t) p f = Iff·trans (hidden-scoped (suc n) u s t (later (suc n) (omega arith) p) f)
-    (each (λ m h. lower n (suc n) (suc n + size t) s (only m (entries (suc n) u s t)) p (omega arith) (every-only (Reach (suc n) (suc n + size t) s) m (entries (suc n) u s t) (reach (suc n) u (suc n + size t) s t (later (suc n) (omega arith) p) (omega arith)))))
-hidden-scoped n u s (pre a (suc k) t) p f = Iff·trans (hidden-scoped (suc n) (suc k) s t (later (suc n) (omega arith) p) rest) (each (λ m h. pick m h (ℕ-discrete m (suc k))))
+hidden-scoped n row u s nil p f = (λ z m h. tt, λ z. tt)
+hidden-scoped n row u s (pre a zero t) p f = Iff·trans (hidden-scoped (suc n) row u s t (later (suc n) (omega arith) p) f)
+    (each (λ m h. lower n (suc n) (suc n + size t) s (only m (entries (suc n) row u s t)) p (omega arith) (every-only (Reach (suc n) (suc n + size t) s) m (entries (suc n) row u s t) (reach (suc n) row u (suc n + size t) s t (later (suc n) (omega arith) p) (omega arith)))))
+hidden-scoped n row u s (pre a (suc k) t) p f = Iff·trans (hidden-scoped (suc n) (suc row) (suc k) s t (later (suc n) (omega arith) p) rest) (each (λ m h. pick m h (ℕ-discrete m (suc k))))
   where
     e : Entry
-    e = record { key = suc k; action = a; node = n; end = suc n + size t; scope = s a; up = u }
+    e = record { key = suc k; action = a; row = row; end = suc row + marked t; scope = s a; up = u }
 
     l : List Entry
-    l = entries (suc n) (suc k) s t
+    l = entries (suc n) (suc row) (suc k) s t
 
     reached : (m : ℕ) → Every (Reach (suc n) (suc n + size t) s) (only m l)
-    reached m = every-only (Reach (suc n) (suc n + size t) s) m l (reach (suc n) (suc k) (suc n + size t) s t (later (suc n) (omega arith) p) (omega arith))
+    reached m = every-only (Reach (suc n) (suc n + size t) s) m l (reach (suc n) (suc row) (suc k) (suc n + size t) s t (later (suc n) (omega arith) p) (omega arith))
 
     rest : (m : ℕ) → 0 < m → Fit (only m l)
     rest m h = without (ℕ-discrete m (suc k))
@@ -249,15 +249,15 @@ hidden-scoped n u s (pre a (suc k) t) p f = Iff·trans (hidden-scoped (suc n) (s
     pick : (m : ℕ) → 0 < m → Dec (m ≡ suc k) → Scoped (suc n) (only m l) ↔ Scoped n (only m (e ∷ l))
     pick m h (yes q) = rw (only-same m e l q) (front n (suc n + size t) s e (only m l) p refl (rw (only-same m e l q) at (f m h)) (reached m))
     pick m h (no q) = rw (only-other m e l q) (lower n (suc n) (suc n + size t) s (only m l) p (omega arith) (reached m))
-hidden-scoped n u s (cho t r) p f = two-sides n u s p t r f (hidden-scoped (suc n) u s t (later (suc n) (omega arith) p)) (hidden-scoped (suc n + size t) u s r (later (suc n + size t) (omega arith) p))
-hidden-scoped n u s (par t r) p f = two-sides n u s p t r f (hidden-scoped (suc n) u s t (later (suc n) (omega arith) p)) (hidden-scoped (suc n + size t) u s r (later (suc n + size t) (omega arith) p))
-hidden-scoped n u s (res a t) p f = both (hidden-scoped (suc n) u (under a n s) t (deeper a p) f)
+hidden-scoped n row u s (cho t r) p f = two-sides n row u s p t r f (hidden-scoped (suc n) row u s t (later (suc n) (omega arith) p)) (hidden-scoped (suc n + size t) (row + marked t) u s r (later (suc n + size t) (omega arith) p))
+hidden-scoped n row u s (par t r) p f = two-sides n row u s p t r f (hidden-scoped (suc n) row u s t (later (suc n) (omega arith) p)) (hidden-scoped (suc n + size t) (row + marked t) u s r (later (suc n + size t) (omega arith) p))
+hidden-scoped n row u s (res a t) p f = both (hidden-scoped (suc n) row u (under a n s) t (deeper a p) f)
   where
     l : List Entry
-    l = entries (suc n) u (under a n s) t
+    l = entries (suc n) row u (under a n s) t
 
     one : (m : ℕ) → 0 < m → Held a (labels m t) × Scoped (suc n) (only m l) ↔ Scoped n (only m l)
-    one m h = rw (labels-entries m (suc n) u (under a n s) t h) (inner n (suc n + size t) a s (only m l) p (f m h) (every-only (Reach (suc n) (suc n + size t) (under a n s)) m l (reach (suc n) u (suc n + size t) (under a n s) t (deeper a p) (omega arith))))
+    one m h = rw (labels-entries m (suc n) row u (under a n s) t h) (inner n (suc n + size t) a s (only m l) p (f m h) (every-only (Reach (suc n) (suc n + size t) (under a n s)) m l (reach (suc n) row u (suc n + size t) (under a n s) t (deeper a p) (omega arith))))
 
     both : Hidden t ↔ ((m : ℕ) → 0 < m → Scoped (suc n) (only m l)) → Hidden (res a t) ↔ ((m : ℕ) → 0 < m → Scoped n (only m l))
     both i = (λ z m h. one m h .0 (z .0 m h, i .0 (z .1) m h), λ z. ((λ m h. one m h .1 (z m h) .0), i .1 (λ m h. one m h .1 (z m h) .1)))
@@ -270,5 +270,5 @@ enclosed (e ∷ (f ∷ (g ∷ l))) = (λ z. z, λ z. z)
 
 -- condition 6
 pub hidden-by-entries : (t : Term) → Twice t → Paired t → Hidden t ↔ EachKey Enclosed (all t)
-hidden-by-entries t w c = Iff·trans (hidden-scoped 0 0 open-scopes t (record { past = λ l. omega arith; fair = λ l k z. refl })
+hidden-by-entries t w c = Iff·trans (hidden-scoped 0 0 0 open-scopes t (record { past = λ l. omega arith; fair = λ l k z. refl })
     (λ m h. fit (only m (all t)) (twice-by-entries t .0 w m h) (paired-by-entries t .0 c m h))) (each (λ m h. enclosed (only m (all t))))

@@ -10,7 +10,7 @@ use lib.ListN.{length, length-append}
 use Rattle.ccsk.specs.Term.{Term, nil, pre, cho, par, res, Std, labels, size}
 use Rattle.ccsk.proofs.Basic.{std-labels}
 use Rattle.sound.specs.Sound.{count, Chosen, Apart, Split}
-use Rattle.causes.specs.Entry.{Entry, Scopes, under, open-scopes, entries, all, only}
+use Rattle.causes.specs.Entry.{Entry, Scopes, under, open-scopes, marked, entries, all, only}
 use Rattle.causes.specs.Tests.{EachKey, AtMostTwo, Beside}
 use Rattle.causes.proofs.Entries.{Every, Within, within, every-only, only-append, only-same, only-other, count-entries}
 
@@ -18,7 +18,7 @@ use Rattle.causes.proofs.Entries.{Every, Within, within, every-only, on
 abbrev pub Parted : List Entry → Type 0
 Parted [] = ⊥
 Parted (e ∷ []) = ⊥
-Parted (e ∷ (f ∷ [])) = e .end ≤ f .node
+Parted (e ∷ (f ∷ [])) = e .end ≤ f .row
 Parted (e ∷ (f ∷ (g ∷ l))) = ⊥
 
 -- entries of one key below a prefix that holds it, too
@@ -49,8 +49,8 @@ parallel n c b (e ∷ (f ∷ [])) (g ∷ y) h p q = absurd (omega arith)
 parallel n c b (e ∷ (f ∷ (g ∷ x))) y h p q = absurd (omega arith)
 
 -- a term without keys has no entries
-no-entries : (m n u : ℕ) (s : Scopes) (t : Term) → 0 < m → Std t → only m (entries n u s t) ≡ []
-no-entries m n u s t h d = empty (only m (entries n u s t)) (sym (count-entries m n u s t h) ∙ ap length (std-labels m t d h))
+no-entries : (m n row u : ℕ) (s : Scopes) (t : Term) → 0 < m → Std t → only m (entries n row u s t) ≡ []
+no-entries m n row u s t h d = empty (only m (entries n row u s t)) (sym (count-entries m n row u s t h) ∙ ap length (std-labels m t d h))
   where
     empty : (l : List Entry) → length l ≡ 0 → l ≡ []
     empty [] e = refl
@@ -64,49 +64,55 @@ module _ (m : ℕ) (h : 0 < m) where
   shorter : (x y : List Entry) → length (only m (x ++ y)) ≤ 2 → (length (only m x) ≤ 2) × (length (only m y) ≤ 2) × (length (only m x ++ only m y) ≤ 2)
   shorter x y k = let e = length-append (only m x) (only m y) in let q = ap length (only-append m x y) in omega arith
 
-  pub parted : (n u : ℕ) (s : Scopes) (t : Term) → Chosen t → length (only m (entries n u s t)) ≤ 2 → Apart m t ↔ Parted (only m (entries n u s t))
+  pub parted : (n row u : ℕ) (s : Scopes) (t : Term) → Chosen t → length (only m (entries n row u s t)) ≤ 2 → Apart m t ↔ Parted (only m (entries n row u s t))
   unfolding entries only
-  parted n u s nil c k = (λ x. x, λ x. x)
-  parted n u s (pre a zero t) c k = parted (suc n) u s t c k
-  parted n u s (pre a (suc j) t) c k = pick (ℕ-discrete m (suc j)) k (parted (suc n) (suc j) s t c)
+  parted n row u s nil c k = (λ x. x, λ x. x)
+  parted n row u s (pre a zero t) c k = parted (suc n) row u s t c k
+  parted n row u s (pre a (suc j) t) c k = pick (ℕ-discrete m (suc j)) k (parted (suc n) (suc row) (suc j) s t c)
     where
       e : Entry
-      e = record { key = suc j; action = a; node = n; end = suc n + size t; scope = s a; up = u }
+      e = record { key = suc j; action = a; row = row; end = suc row + marked t; scope = s a; up = u }
 
       l : List Entry
-      l = entries (suc n) (suc j) s t
+      l = entries (suc n) (suc row) (suc j) s t
 
       pick : Dec (m ≡ suc j) → length (only m (e ∷ l)) ≤ 2 → (length (only m l) ≤ 2 → Apart m t ↔ Parted (only m l)) → Apart m t ↔ Parted (only m (e ∷ l))
       pick (yes q) k i =
           let z : length (e ∷ only m l) ≤ 2 = rw (only-same m e l q) at k in
-          rw (only-same m e l q) (Iff·trans (i (omega arith)) (below (suc n) (suc n + size t) e (only m l) z (omega arith) (every-only (Within (suc n) (suc n + size t)) m l (within (suc n) (suc j) (suc n + size t) s t (omega arith)))))
+          rw (only-same m e l q) (Iff·trans (i (omega arith)) (below (suc row) (suc row + marked t) e (only m l) z (omega arith) (every-only (Within (suc row) (suc row + marked t)) m l (within (suc n) (suc row) (suc j) (suc row + marked t) s t (omega arith)))))
       pick (no q) k i = rw (only-other m e l q) (i (rw (only-other m e l q) at k))
-  parted n u s (cho t r) c k = pick (parted (suc n) u s t (c .1)) (parted (suc n + size t) u s r (c .2))
+  parted n row u s (cho t r) c k = pick (parted (suc n) row u s t (c .1)) (parted (suc n + size t) (row + marked t) u s r (c .2))
     where
       x : List Entry
-      x = entries (suc n) u s t
+      x = entries (suc n) row u s t
 
       y : List Entry
-      y = entries (suc n + size t) u s r
+      y = entries (suc n + size t) (row + marked t) u s r
 
       pick : (length (only m x) ≤ 2 → Apart m t ↔ Parted (only m x)) → (length (only m y) ≤ 2 → Apart m r ↔ Parted (only m y)) → Apart m (cho t r) ↔ Parted (only m (x ++ y))
       pick i j = let z = shorter x y k in
-          rw (only-append m x y) (Iff·trans (either (i (z .0)) (j (z .1))) (choice (only m x) (only m y) (z .2) (⊎-elim (λ d. inl (no-entries m (suc n) u s t h d)) (λ d. inr (no-entries m (suc n + size t) u s r h d)) (c .0))))
-  parted n u s (par t r) c k = pick (parted (suc n) u s t (c .0)) (parted (suc n + size t) u s r (c .1))
+          rw (only-append m x y) (Iff·trans (either (i (z .0)) (j (z .1))) (choice (only m x) (only m y) (z .2) (⊎-elim (λ d. inl (no-entries m (suc n) row u s t h d)) (λ d. inr (no-entries m (suc n + size t) (row + marked t) u s r h d)) (c .0))))
+  parted n row u s (par t r) v k = pick (parted (suc n) row u s t (v .0)) (parted (suc n + size t) (row + marked t) u s r (v .1))
     where
+      c : ℕ
+      c = row + marked t
+
+      b : ℕ
+      b = c + marked r
+
       x : List Entry
-      x = entries (suc n) u s t
+      x = entries (suc n) row u s t
 
       y : List Entry
-      y = entries (suc n + size t) u s r
+      y = entries (suc n + size t) (row + marked t) u s r
 
       pick : (length (only m x) ≤ 2 → Apart m t ↔ Parted (only m x)) → (length (only m y) ≤ 2 → Apart m r ↔ Parted (only m y)) → Apart m (par t r) ↔ Parted (only m (x ++ y))
       pick i j = let z = shorter x y k in
-          rw (only-append m x y, count-entries m (suc n) u s t h, count-entries m (suc n + size t) u s r h) (Iff·trans (either (λ v. v, λ v. v) (either (i (z .0)) (j (z .1))))
-              (parallel (suc n) (suc n + size t) (suc n + size t + size r) (only m x) (only m y) (z .2)
-                  (every-only (Within (suc n) (suc n + size t)) m x (within (suc n) u (suc n + size t) s t (omega arith)))
-                  (every-only (Within (suc n + size t) (suc n + size t + size r)) m y (within (suc n + size t) u (suc n + size t + size r) s r (omega arith)))))
-  parted n u s (res a t) c k = parted (suc n) u (under a n s) t c k
+          rw (only-append m x y, count-entries m (suc n) row u s t h, count-entries m (suc n + size t) (row + marked t) u s r h) (Iff·trans (either (λ v. v, λ v. v) (either (i (z .0)) (j (z .1))))
+              (parallel row c b (only m x) (only m y) (z .2)
+                  (every-only (Within row c) m x (within (suc n) row u c s t (omega arith)))
+                  (every-only (Within c b) m y (within (suc n + size t) c u b s r (omega arith)))))
+  parted n row u s (res a t) c k = parted (suc n) row u (under a n s) t c k
 
 beside-parted : (l : List Entry) → (length l ≡ 2 → Parted l) ↔ Beside l
 beside-parted [] = (λ f. tt, λ b e. absurd (omega arith))
@@ -119,7 +125,7 @@ pub split-by-entries : (t : Term) → Chosen t → Split t ↔ EachKey Beside (a
 split-by-entries t c = (to, back)
   where
     to : Split t → EachKey Beside (all t)
-    to w m h = beside-parted (only m (all t)) .0 (λ e. parted m h 0 0 open-scopes t c (omega arith) .0 (w m h (count-entries m 0 0 open-scopes t h ∙ e)))
+    to w m h = beside-parted (only m (all t)) .0 (λ e. parted m h 0 0 0 open-scopes t c (omega arith) .0 (w m h (count-entries m 0 0 0 open-scopes t h ∙ e)))
 
     back : EachKey Beside (all t) → Split t
-    back w m h e = let q = sym (count-entries m 0 0 open-scopes t h) ∙ e in parted m h 0 0 open-scopes t c (omega arith) .1 (beside-parted (only m (all t)) .1 (w m h) q)
+    back w m h e = let q = sym (count-entries m 0 0 0 open-scopes t h) ∙ e in parted m h 0 0 0 open-scopes t c (omega arith) .1 (beside-parted (only m (all t)) .1 (w m h) q)

@@ -6,14 +6,14 @@ use lib.Dec.{eqb}
 use Rattle.ccsk.specs.Term.{Term, Name, Label, Key, Node, nil, pre, cho, par, res, size}
 use Rattle.ccsk.proofs.Decide.{on?}
 
--- A prefix that holds a key: the key, the action that it marks, the node number, and the node number that follows all below it;
--- its scope, one more than the node number of the nearest restriction above that stops the action, 0 if there is none;
--- and the key that the nearest marked prefix above it holds, 0 if there is none.
+-- A prefix that holds a key: the key, the action that it marks, its row in the list of all such prefixes, and the row that follows
+-- all below it; its scope, one more than the node number of the nearest restriction above that stops the action, 0 if there is none;
+-- and the key that the nearest such prefix above it holds, 0 if there is none.
 pub record Entry : Type 0 where
   pub key : Key
   pub action : Label
-  pub node : Node
-  pub end : Node
+  pub row : ℕ
+  pub end : ℕ
   pub scope : ℕ
   pub up : Key
 
@@ -33,19 +33,28 @@ under a n s l = nearest (on? a l) (suc n) (s l)
 abbrev pub open-scopes : Scopes
 open-scopes l = 0
 
--- The entries of a term whose root is node n, below the key up (0: below none) and the scopes s.
-unfoldable pub entries : Node → Key → Scopes → Term → List Entry
-entries n up s nil = []
-entries n up s (pre a zero t) = entries (suc n) up s t
-entries n up s (pre a (suc k) t) =
-    record { key = suc k; action = a; node = n; end = suc n + size t; scope = s a; up = up } ∷ entries (suc n) (suc k) s t
-entries n up s (cho t u) = entries (suc n) up s t ++ entries (suc n + size t) up s u
-entries n up s (par t u) = entries (suc n) up s t ++ entries (suc n + size t) up s u
-entries n up s (res a t) = entries (suc n) up (under a n s) t
+-- how many prefixes hold a key
+unfoldable pub marked : Term → ℕ
+marked nil = 0
+marked (pre a zero t) = marked t
+marked (pre a (suc k) t) = suc (marked t)
+marked (cho t u) = marked t + marked u
+marked (par t u) = marked t + marked u
+marked (res a t) = marked t
+
+-- The entries of a term whose root is node n, the first in row i, below the key up (0: below none) and the scopes s.
+unfoldable pub entries : Node → ℕ → Key → Scopes → Term → List Entry
+entries n i up s nil = []
+entries n i up s (pre a zero t) = entries (suc n) i up s t
+entries n i up s (pre a (suc k) t) =
+    record { key = suc k; action = a; row = i; end = suc i + marked t; scope = s a; up = up } ∷ entries (suc n) (suc i) (suc k) s t
+entries n i up s (cho t u) = entries (suc n) i up s t ++ entries (suc n + size t) (i + marked t) up s u
+entries n i up s (par t u) = entries (suc n) i up s t ++ entries (suc n + size t) (i + marked t) up s u
+entries n i up s (res a t) = entries (suc n) i up (under a n s) t
 
 -- all entries of a term
 abbrev pub all : Term → List Entry
-all t = entries 0 0 open-scopes t
+all t = entries 0 0 0 open-scopes t
 
 -- one entry more in front, if the test holds
 abbrev pub keep : Bool → Entry → List Entry → List Entry

@@ -54,7 +54,7 @@ Complements (e ∷ (f ∷ (g ∷ l))) = Unit {0}
 abbrev pub Beside : List Entry → Type 0
 Beside [] = Unit {0}
 Beside (e ∷ []) = Unit {0}
-Beside (e ∷ (f ∷ [])) = e .end ≤ f .node
+Beside (e ∷ (f ∷ [])) = e .end ≤ f .row
 Beside (e ∷ (f ∷ (g ∷ l))) = Unit {0}
 
 -- 6: the only entry of a key stands in no scope, and two entries of a key stand in the same.
