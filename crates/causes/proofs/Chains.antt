@@ -14,7 +14,7 @@ use Rattle.causes.specs.Entry.{Entry, Scopes, under, open-scopes, marked
 use Rattle.causes.specs.Tests.{Leads, Acyclic}
 
 -- chains
-chain-map : {R S : ℕ → ℕ → Type 0} {m n : ℕ} → ((x y : ℕ) → R x y → S x y) → Chain R m n → Chain S m n
+pub chain-map : {R S : ℕ → ℕ → Type 0} {m n : ℕ} → ((x y : ℕ) → R x y → S x y) → Chain R m n → Chain S m n
 chain-map f (one {m = x} {n = y} b) = one (f x y b)
 chain-map f (more {k = x} {n = y} c b) = more (chain-map f c) (f x y b)
 

@@ -6,3 +6,6 @@ pub mod Sides
 pub mod Scopes
 pub mod Chains
 pub mod Verdict
+pub mod Taking
+pub mod Renaming
+pub mod Examples

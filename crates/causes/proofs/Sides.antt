@@ -109,9 +109,9 @@ module _ (m : ℕ) (h : 0 < m) where
       pick : (length (only m x) ≤ 2 → Apart m t ↔ Parted (only m x)) → (length (only m y) ≤ 2 → Apart m r ↔ Parted (only m y)) → Apart m (par t r) ↔ Parted (only m (x ++ y))
       pick i j = let z = shorter x y k in
           rw (only-append m x y, count-entries m (suc n) row u s t h, count-entries m (suc n + size t) (row + marked t) u s r h) (Iff·trans (either (λ v. v, λ v. v) (either (i (z .0)) (j (z .1))))
-              (parallel row c b (only m x) (only m y) (z .2)
-                  (every-only (Within row c) m x (within (suc n) row u c s t (omega arith)))
-                  (every-only (Within c b) m y (within (suc n + size t) c u b s r (omega arith)))))
+          (parallel row c b (only m x) (only m y) (z .2)
+          (every-only (Within row c) m x (within (suc n) row u c s t (omega arith)))
+          (every-only (Within c b) m y (within (suc n + size t) c u b s r (omega arith)))))
   parted n row u s (res a t) c k = parted (suc n) row u (under a n s) t c k
 
 beside-parted : (l : List Entry) → (length l ≡ 2 → Parted l) ↔ Beside l
