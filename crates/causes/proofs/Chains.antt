@@ -1,6 +1,6 @@
 -- The test for condition 7: the nearest marked prefix above each entry generates the whole relation 'm marks a prefix above one marked n'.
-use mathlib.Core.Path.{_≡_, refl, sym, ap, _∙_}
-use mathlib.Core.Logic.{_⊎_, inl, inr, ⊎-elim, _↔_, _≢_}
+use mathlib.Core.Path.{_≡_, refl, ap}
+use mathlib.Core.Logic.{_⊎_, inl, inr, ⊎-elim, _↔_}
 use mathlib.Core.List.{List, [], _∷_, _++_}
 use Prim.Native.Nat.{ℕ, zero, suc, _+_, _≤_, _<_}
 use native.Mathlib.Decide.{ℕ-discrete}
@@ -9,7 +9,6 @@ use lib.ListN.{length, length-append}
 use Rattle.ccsk.specs.Term.{Term, nil, pre, cho, par, res, Has, labels, size}
 use Rattle.ccsk.proofs.Basic.{never, labels-same, labels-other, labels-fresh}
 use Rattle.sound.specs.Sound.{count, Twice, Apart, Split, Above, Before, Chain, one, more, Ordered}
-use Rattle.sound.proofs.Order.{above-low}
 use Rattle.causes.specs.Entry.{Entry, Scopes, under, open-scopes, marked, entries, all}
 use Rattle.causes.specs.Tests.{Leads, Acyclic}
 

@@ -1,19 +1,16 @@
 -- How the entries of a term belong to its labels, and in which range their numbers lie.
-use mathlib.Core.Path.{_≡_, refl, sym, ap, _∙_}
-use mathlib.Core.Logic.{_⊎_, inl, inr, ⊎-elim, _≢_}
-use mathlib.Core.List.{List, [], _∷_, _++_, append-assoc}
+use mathlib.Core.Path.{_≡_, refl, ap, _∙_}
+use mathlib.Core.Logic.{_≢_}
+use mathlib.Core.List.{List, [], _∷_, _++_}
 use mathlib.Core.Bool.{Bool, true, false}
 use Prim.Native.Nat.{ℕ, zero, suc, _+_, _≤_, _<_}
-use native.Mathlib.Decide.{ℕ-discrete}
 use native.Mathlib.Omega.{arith}
 use borrow.Author.Tests.{eq-eqb, ne-eqb}
 use lib.Dec.{eqb}
 use lib.ListN.{length}
-use Rattle.ccsk.specs.Term.{Term, nil, pre, cho, par, res, Std, Has, Co, On, Channel, tick, labels, size}
-use Rattle.ccsk.proofs.Basic.{fresh-labels, labels-fresh, std-labels}
-use Rattle.ccsk.proofs.Decide.{on?}
+use Rattle.ccsk.specs.Term.{Term, nil, pre, cho, par, res, tick, labels, size}
 use Rattle.sound.specs.Sound.{count}
-use Rattle.causes.specs.Entry.{Entry, Scopes, nearest, under, marked, entries, keep, only}
+use Rattle.causes.specs.Entry.{Entry, Scopes, under, marked, entries, keep, only}
 
 -- only
 pub only-append : (m : ℕ) (x y : List Entry) → only m (x ++ y) ≡ only m x ++ only m y

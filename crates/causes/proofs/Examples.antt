@@ -1,17 +1,15 @@
 -- 01's examples of the verdicts 1 to 7, seen through the entries.
 use mathlib.Core.Path.{_≡_, refl}
-use mathlib.Core.Logic.{_⊎_, inl, inr}
-use mathlib.Core.List.{List, [], _∷_}
-use mathlib.Core.Bool.{true, false}
-use Prim.Native.Nat.{ℕ, _≤_, _<_}
+use mathlib.Core.Logic.{inl, inr}
+use mathlib.Core.Bool.{false}
+use Prim.Native.Nat.{ℕ, _≤_}
 use native.Mathlib.Omega.{arith}
-use lib.ListN.{length}
-use Rattle.ccsk.specs.Term.{Term, nil, pre, cho, par, res, Co}
-use Rattle.sound.specs.Sound.{Chain, one, more}
+use Rattle.ccsk.specs.Term.{nil, pre, cho, par, res, Co}
+use Rattle.sound.specs.Sound.{one, more}
 use native.Mathlib.Decide.{ℕ-discrete, decLe}
 use Rattle.ccsk.proofs.Decide.{on?, channel?}
-use Rattle.causes.specs.Entry.{Entry, marked, entries, under, all, only}
-use Rattle.causes.specs.Tests.{EachKey, AtMostTwo, Complements, Beside, Enclosed, Leads, Acyclic, holds, waits, chosen}
+use Rattle.causes.specs.Entry.{marked, entries, under, all, only}
+use Rattle.causes.specs.Tests.{EachKey, AtMostTwo, Complements, Beside, Enclosed, Acyclic, holds, waits, chosen}
 
 -- a.b[1].0
 fails-1 : waits (pre 1 0 (pre 2 1 nil)) ≡ false

@@ -1,12 +1,10 @@
 -- The tests for the conditions 3 and 4: how many entries a key has, and which actions it marks.
-use mathlib.Core.Path.{_≡_, refl, sym, _∙_}
+use mathlib.Core.Path.{_≡_, refl}
 use mathlib.Core.Logic.{_↔_}
 use mathlib.Core.List.{List, [], _∷_}
-use Prim.Native.Nat.{ℕ, zero, suc, _≤_, _<_}
 use native.Mathlib.Omega.{arith}
-use lib.ListN.{length}
-use Rattle.ccsk.specs.Term.{Term, Co, labels}
-use Rattle.sound.specs.Sound.{count, Twice, Paired}
+use Rattle.ccsk.specs.Term.{Term}
+use Rattle.sound.specs.Sound.{Twice, Paired}
 use Rattle.sound.proofs.Decide.{Two, not-two}
 use Rattle.causes.specs.Entry.{Entry, open-scopes, all, only}
 use Rattle.causes.specs.Tests.{EachKey, AtMostTwo, Complements}

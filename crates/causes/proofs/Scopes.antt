@@ -1,20 +1,20 @@
 -- The test for condition 6: where keys stand at most twice, on complementary actions, every restriction holds what it hides
 -- exactly if a key's two entries have the same nearest restriction, and a single entry has none.
-use mathlib.Core.Path.{_≡_, refl, sym, ap, _∙_}
-use mathlib.Core.Logic.{_⊎_, inl, inr, ⊎-elim, _↔_, Iff·trans}
+use mathlib.Core.Path.{_≡_, refl, sym, _∙_}
+use mathlib.Core.Logic.{_⊎_, inl, inr, _↔_, Iff·trans}
 use mathlib.Core.List.{List, [], _∷_, _++_}
 use Prim.Native.Nat.{ℕ, zero, suc, _+_, _≤_, _<_}
 use native.Mathlib.Decide.{ℕ-discrete}
 use native.Mathlib.Omega.{arith}
 use lib.ListN.{length}
 use Rattle.ccsk.specs.Numbers.{In}
-use Rattle.ccsk.specs.Term.{Term, nil, pre, cho, par, res, Co, On, Channel, labels, size}
+use Rattle.ccsk.specs.Term.{Term, nil, pre, cho, par, res, Co, On, labels, size}
 use Rattle.ccsk.proofs.Basic.{co-sym}
 use Rattle.ccsk.proofs.Decide.{on?}
-use Rattle.sound.specs.Sound.{count, Twice, Paired, Hidden}
+use Rattle.sound.specs.Sound.{Twice, Paired, Hidden}
 use Rattle.causes.specs.Entry.{Entry, Scopes, nearest, under, open-scopes, marked, entries, all, only}
 use Rattle.causes.specs.Tests.{EachKey, AtMostTwo, Complements, Enclosed}
-use Rattle.causes.proofs.Entries.{Every, every-append, every-map, every-only, only-append, only-same, only-other, actions, labels-entries, count-entries}
+use Rattle.causes.proofs.Entries.{Every, every-append, every-map, every-only, only-append, only-same, only-other, actions, labels-entries}
 use Rattle.causes.proofs.Pairs.{twice-by-entries, paired-by-entries}
 
 -- What is known of the scope of an entry below the scopes s, in a term whose root is node n and that ends before node b:

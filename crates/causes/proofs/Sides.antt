@@ -7,11 +7,11 @@ use Prim.Native.Nat.{ℕ, zero, suc, _+_, _≤_, _<_}
 use native.Mathlib.Decide.{ℕ-discrete}
 use native.Mathlib.Omega.{arith}
 use lib.ListN.{length, length-append}
-use Rattle.ccsk.specs.Term.{Term, nil, pre, cho, par, res, Std, labels, size}
+use Rattle.ccsk.specs.Term.{Term, nil, pre, cho, par, res, Std, size}
 use Rattle.ccsk.proofs.Basic.{std-labels}
-use Rattle.sound.specs.Sound.{count, Chosen, Apart, Split}
+use Rattle.sound.specs.Sound.{Chosen, Apart, Split}
 use Rattle.causes.specs.Entry.{Entry, Scopes, under, open-scopes, marked, entries, all, only}
-use Rattle.causes.specs.Tests.{EachKey, AtMostTwo, Beside}
+use Rattle.causes.specs.Tests.{EachKey, Beside}
 use Rattle.causes.proofs.Entries.{Every, Within, within, every-only, only-append, only-same, only-other, count-entries}
 
 -- two entries, and the second is not below the first

@@ -1,8 +1,9 @@
 -- Taking out keys, one by one, that nothing right below holds back: it empties the columns exactly if there is no cycle.
-use mathlib.Core.Path.{_≡_, refl, sym, ap, _∙_}
+use mathlib.Core.Path.{_≡_, refl, sym, ap}
 use mathlib.Core.Logic.{_⊎_, inl, inr, ⊎-elim, _↔_, _≢_}
 use mathlib.Core.List.{List, [], _∷_, _++_}
-use Prim.Native.Nat.{ℕ, zero, suc, _+_, _≤_, _<_}
+use mathlib.Core.Bool.{Bool, true, false}
+use Prim.Native.Nat.{ℕ, suc, _+_, _≤_, _<_}
 use native.Mathlib.Decide.{ℕ-discrete, decLt}
 use native.Mathlib.Omega.{arith}
 use borrow.Author.Tests.{eq-eqb, ne-eqb}
@@ -13,7 +14,7 @@ use Rattle.ccsk.proofs.Decide.{three}
 use Rattle.sound.specs.Sound.{Chain, one, more}
 use Rattle.sound.proofs.Peel.{Peak, peak, Rowed, rowed-free}
 use Rattle.ccsk.specs.Term.{tick}
-use Rattle.causes.specs.Links.{Linked, NoCycle, one-when, one-if, times, pending, one-unless, remaining, right-above}
+use Rattle.causes.specs.Links.{Linked, NoCycle, one-when, one-if, times, pending, right-above}
 
 unfoldable pub linked? : (ks us : List ℕ) (m n : ℕ) → Dec (Linked ks us m n)
 linked? [] us m n = no (λ b. b)
@@ -74,33 +75,13 @@ pub take-next : (ks us o : List ℕ) (m : ℕ) → Rowed (Linked ks us) (linked?
 unfolding Rowed
 take-next ks us o m w f e = (f, pending-none m o ks us e, w)
 
--- nothing remains: every key has been taken out
-pub remaining-none : (o ks : List ℕ) → remaining o ks ≡ 0 → (k : ℕ) → In k ks → In k o
-unfolding remaining
-remaining-none o [] e k i = absurd i
-remaining-none o (x ∷ ks) e k i = pick (in? x o) e i (remaining-none o ks)
-  where
-    pick : (d : Dec (In x o)) → one-unless d (remaining o ks) ≡ 0 → (k ≡ x) ⊎ In k ks → (remaining o ks ≡ 0 → (k : ℕ) → In k ks → In k o) → In k o
-    pick (yes d) e (inl i) f = rw i d
-    pick (yes d) e (inr i) f = f e k i
-    pick (no d) e i f = absurd (omega arith)
-
-pub remaining-some : (o ks : List ℕ) → 0 < remaining o ks → (k : ℕ) × In k ks × (¬ In k o)
-unfolding remaining
-remaining-some o [] p = absurd (omega arith)
-remaining-some o (x ∷ ks) p = pick (in? x o) p (remaining-some o ks)
-  where
-    pick : (d : Dec (In x o)) → 0 < one-unless d (remaining o ks) → (0 < remaining o ks → (k : ℕ) × In k ks × (¬ In k o)) → (k : ℕ) × ((k ≡ x) ⊎ In k ks) × (¬ In k o)
-    pick (yes d) p f = let r = f p in (r .0, inr (r .1), r .2)
-    pick (no d) p f = (x, inl refl, d)
-
 chain-end : (ks us : List ℕ) {m n : ℕ} → Chain (Linked ks us) m n → In n ks
 chain-end ks us (one {m = x} {n = y} b) = linked-low ks us x y b
 chain-end ks us (more {k = x} {n = y} c b) = linked-low ks us x y b
 
 -- all keys are taken out, each after those right below it: there is no cycle
-pub emptied : (ks us o : List ℕ) → Rowed (Linked ks us) (linked? ks us) o → remaining o ks ≡ 0 → NoCycle ks us
-emptied ks us o w e m c = rowed-free (Linked ks us) (linked? ks us) o w m (remaining-none o ks e m (chain-end ks us c)) c
+pub emptied : (ks us o : List ℕ) → Rowed (Linked ks us) (linked? ks us) o → ((k : ℕ) → In k ks → In k o) → NoCycle ks us
+emptied ks us o w f m c = rowed-free (Linked ks us) (linked? ks us) o w m (f m (chain-end ks us c)) c
 
 -- the numbers of l that are not in o
 abbrev put : {A : Type 0} → Dec A → ℕ → List ℕ → List ℕ
@@ -120,9 +101,9 @@ in-apart o (x ∷ l) k = pick (in? x o) (in-apart o l k)
     pick (yes d) i = (λ z. (inr (i .0 z .0), i .0 z .1), λ z. ⊎-elim (λ e. absurd (z .1 (rw e d))) (λ j. i .1 (j, z .1)) (z .0))
     pick (no d) i = (⊎-elim (λ e. (inl e, λ j. d (rw e at j))) (λ j. (inr (i .0 j .0), i .0 j .1)), λ z. ⊎-elim inl (λ j. inr (i .1 (j, z .1))) (z .0))
 
--- keys remain, and below each that remains something is pending: there is a cycle
-pub stuck : (ks us o : List ℕ) → ((k : ℕ) → In k ks → ¬ In k o → (0 < k) × (0 < pending k o ks us)) → 0 < remaining o ks → ¬ NoCycle ks us
-stuck ks us o f p free = out (peak (Linked ks us) (linked? ks us) (apart o ks) free (remaining-some o ks p .0) (in-apart o ks (remaining-some o ks p .0) .1 (remaining-some o ks p .1, remaining-some o ks p .2)))
+-- a key remains, and below each that remains something is pending: there is a cycle
+pub stuck : (ks us o : List ℕ) → ((k : ℕ) → In k ks → ¬ In k o → (0 < k) × (0 < pending k o ks us)) → (k : ℕ) → In k ks → ¬ In k o → ¬ NoCycle ks us
+stuck ks us o f k i j free = out (peak (Linked ks us) (linked? ks us) (apart o ks) free k (in-apart o ks k .1 (i, j)))
   where
     out : Peak (Linked ks us) (apart o ks) → ⊥
     out r =
@@ -182,33 +163,40 @@ pending-take j m o (k ∷ ks) (u ∷ us) f = pick (ℕ-discrete j u) (ℕ-discre
         other (yes a) b = rw (if-out (yes d) b (pending j (m ∷ o) ks us) (inr a)) q
         other (no a) b = rw (if-yes (yes d) b (pending j (m ∷ o) ks us) d (λ i. ⊎-elim (λ z. e (sym z)) a i)) (omega arith)
 
--- to take out m leaves so many rows less as hold m
-pub remaining-take : (m : ℕ) (o ks : List ℕ) → ¬ In m o → remaining o ks ≡ remaining (m ∷ o) ks + times m ks
-unfolding remaining times
-remaining-take m o [] f = refl
-remaining-take m o (k ∷ ks) f = pick (ℕ-discrete m k) (in? k o) (in? k (m ∷ o)) (remaining-take m o ks f)
+pub times-append : (m : ℕ) (x y : List ℕ) → times m (x ++ y) ≡ times m x + times m y
+times-append m [] y = rw (times-none m) (omega arith)
+times-append m (k ∷ x) y = pick (ℕ-discrete m k) (times-append m x y)
   where
-    pick : (d : Dec (m ≡ k)) (a : Dec (In k o)) (b : Dec (In k (m ∷ o))) → remaining o ks ≡ remaining (m ∷ o) ks + times m ks → one-unless a (remaining o ks) ≡ one-unless b (remaining (m ∷ o) ks) + one-when d (times m ks)
-    pick (yes d) (yes a) b q = absurd (f (rw d a))
-    pick (yes d) (no a) (yes b) q = omega arith
-    pick (yes d) (no a) (no b) q = absurd (b (inl (sym d)))
-    pick (no d) (yes a) (yes b) q = q
-    pick (no d) (yes a) (no b) q = absurd (b (inr a))
-    pick (no d) (no a) (yes b) q = absurd (⊎-elim (λ z. d (sym z)) a b)
-    pick (no d) (no a) (no b) q = omega arith
+    pick : Dec (m ≡ k) → times m (x ++ y) ≡ times m x + times m y → times m (k ∷ (x ++ y)) ≡ times m (k ∷ x) + times m y
+    pick (yes e) q = rw (times-same m k (x ++ y) e, times-same m k x e) (omega arith)
+    pick (no e) q = rw (times-other m k (x ++ y) e, times-other m k x e) q
 
--- at first every row remains
-pub remaining-first : (ks : List ℕ) → remaining [] ks ≡ length ks
-unfolding remaining in?
-remaining-first [] = refl
-remaining-first (k ∷ ks) = ap suc (remaining-first ks)
+pub times-le : (m : ℕ) (l : List ℕ) → times m l ≤ length l
+times-le m [] = rw (times-none m) (omega arith)
+times-le m (k ∷ l) = pick (ℕ-discrete m k) (times-le m l)
+  where
+    pick : Dec (m ≡ k) → times m l ≤ length l → times m (k ∷ l) ≤ suc (length l)
+    pick (yes e) q = rw (times-same m k l e) (omega arith)
+    pick (no e) q = rw (times-other m k l e) (omega arith)
 
-pub right-above-length : (m : ℕ) (ks us : List ℕ) → length ks ≡ length us → length (right-above m ks us) ≡ times m ks
+-- a link to n is one of the keys right above n
+pub linked-above : (ks us : List ℕ) (m n : ℕ) → Linked ks us m n ↔ ((0 < m) × In m (right-above n ks us))
 unfolding right-above
-right-above-length m [] us e = rw (times-none m)
-right-above-length m (k ∷ ks) [] e = absurd (omega arith)
-right-above-length m (k ∷ ks) (u ∷ us) e = pick (ℕ-discrete m k) (right-above-length m ks us (omega arith))
+linked-above [] us m n = (λ i. absurd i, λ i. i .1)
+linked-above (k ∷ ks) [] m n = (λ i. absurd i, λ i. i .1)
+linked-above (k ∷ ks) (u ∷ us) m n = pick (ℕ-discrete n k) (linked-above ks us m n)
   where
-    pick : Dec (m ≡ k) → length (right-above m ks us) ≡ times m ks → length (tick (eqb m k) u (right-above m ks us)) ≡ times m (k ∷ ks)
-    pick (yes d) q = rw (eq-eqb m k d, times-same m k ks d) (ap suc q)
-    pick (no d) q = rw (ne-eqb m k d, times-other m k ks d) q
+    pick : Dec (n ≡ k) → Linked ks us m n ↔ ((0 < m) × In m (right-above n ks us)) → ((0 < m) × (m ≡ u) × (n ≡ k)) ⊎ Linked ks us m n ↔ ((0 < m) × In m (tick (eqb n k) u (right-above n ks us)))
+    pick (yes e) r = rw (eq-eqb n k e) (⊎-elim (λ i. (i .0, inl (i .1))) (λ i. (r .0 i .0, inr (r .0 i .1))), λ i. ⊎-elim (λ z. inl (i .0, z, e)) (λ z. inr (r .1 (i .0, z))) (i .1))
+    pick (no e) r = rw (ne-eqb n k e) (⊎-elim (λ i. absurd (e (i .2))) (r .0), λ i. inr (r .1 i))
+
+pub above-append : (m : ℕ) (ks us js vs : List ℕ) → length ks ≡ length us → right-above m (ks ++ js) (us ++ vs) ≡ right-above m ks us ++ right-above m js vs
+unfolding right-above
+above-append m [] [] js vs e = refl
+above-append m [] (u ∷ us) js vs e = absurd (omega arith)
+above-append m (k ∷ ks) [] js vs e = absurd (omega arith)
+above-append m (k ∷ ks) (u ∷ us) js vs e = rw (above-append m ks us js vs (omega arith)) (pull (eqb m k))
+  where
+    pull : (b : Bool) → tick b u (right-above m ks us ++ right-above m js vs) ≡ tick b u (right-above m ks us) ++ right-above m js vs
+    pull true = refl
+    pull false = refl

@@ -4,7 +4,7 @@ use mathlib.Core.Logic.{_↔_}
 use mathlib.Core.Bool.{Bool, true, false, true≢false}
 use Prim.Native.Nat.{ℕ}
 use Rattle.ccsk.specs.Term.{Term}
-use Rattle.sound.specs.Sound.{Waits, Chosen, Verdict, sound, fails₁, fails₂, fails₃, fails₄, fails₅, fails₆, fails₇}
+use Rattle.sound.specs.Sound.{Verdict, sound, fails₁, fails₂, fails₃, fails₄, fails₅, fails₆, fails₇}
 use Rattle.causes.specs.Tests.{waits, chosen, Tested, none-fails, first-fails, second-fails, third-fails, fourth-fails, fifth-fails, sixth-fails, seventh-fails}
 use Rattle.causes.proofs.Folds.{waits-by-fold, chosen-by-fold}
 use Rattle.causes.proofs.Pairs.{twice-by-entries, paired-by-entries}

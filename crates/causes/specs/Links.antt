@@ -51,16 +51,6 @@ pending m o [] us = 0
 pending m o (k ∷ ks) [] = 0
 pending m o (k ∷ ks) (u ∷ us) = one-if (ℕ-discrete m u) (in? k o) (pending m o ks us)
 
--- one more, unless it holds
-abbrev pub one-unless : {A : Type 0} → Dec A → ℕ → ℕ
-one-unless (yes a) n = n
-one-unless (no a) n = suc n
-
--- how many rows hold a key that has not been taken out
-unfoldable pub remaining : List Key → List Key → ℕ
-remaining o [] = 0
-remaining o (k ∷ ks) = one-unless (in? k o) (remaining o ks)
-
 -- the keys right above m, from the left, 0 where there is none
 unfoldable pub right-above : Key → List Key → List Key → List Key
 right-above m [] us = []

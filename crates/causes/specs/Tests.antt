@@ -7,7 +7,7 @@ use Prim.Native.Nat.{ℕ, zero, suc, _≤_, _<_}
 use lib.ListN.{length}
 use Rattle.ccsk.specs.Term.{Term, Key, nil, pre, cho, par, res, Co}
 use Rattle.sound.specs.Sound.{Chain}
-use Rattle.causes.specs.Entry.{Entry, entries, all, only}
+use Rattle.causes.specs.Entry.{Entry, all, only}
 
 -- some prefix of the term holds a key
 unfoldable pub holds : Term → Bool
