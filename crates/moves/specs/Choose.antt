@@ -1,6 +1,6 @@
 -- The prefixes that a step is asked of: by node number for a forward step, by key for an undo.
-use mathlib.Core.List.{List, [], _∷_, _++_}
-use mathlib.Core.Bool.{Bool, true, false}
+use mathlib.Core.List.{List, [], _++_}
+use mathlib.Core.Bool.{Bool, true, false, _||_}
 use Prim.Native.Nat.{ℕ, zero, suc, _+_}
 use lib.Dec.{eqb}
 use Rattle.ccsk.specs.Term.{Term, Key, Node, nil, pre, cho, par, res, size, tick}
@@ -8,14 +8,10 @@ use Rattle.ccsk.specs.Place.{shift}
 use Rattle.format.specs.Encode.{encode}
 use lib.ListN.{length}
 
-abbrev pub or : Bool → Bool → Bool
-or true b = true
-or false b = b
-
 -- forward: node n is p, or it is q and q is not 0
 abbrev pub forward-choice : Node → Node → Node → Key → Bool
 forward-choice p zero n k = eqb n p
-forward-choice p (suc q) n k = or (eqb n p) (eqb n (suc q))
+forward-choice p (suc q) n k = eqb n p || eqb n (suc q)
 
 -- undo: the prefix holds m
 abbrev pub undo-choice : Key → Node → Key → Bool

@@ -1,10 +1,9 @@
 -- Whether the chosen prefixes of a term step together, decided from the leaves to the root in one pass.
-use mathlib.Core.Bool.{Bool, true, false}
-use Prim.Native.Nat.{ℕ, zero, suc, _+_}
+use mathlib.Core.Bool.{Bool, true, false, not, _||_}
+use Prim.Native.Nat.{_+_}
 use lib.Dec.{eqb}
 use Rattle.ccsk.specs.Term.{Term, Name, Label, Key, Node, nil, pre, cho, par, res, size}
 use Rattle.ccsk.proofs.Decide.{co?, on?}
-use Rattle.moves.specs.Choose.{or}
 
 -- Of a part of the record: no chosen prefix is there; or all that are there step together, with the label seen at the part's root;
 -- or some are there and do not.
@@ -13,24 +12,20 @@ pub data Move : Type 0 where
   step : Label → Move
   stuck : Move
 
-abbrev pub not : Bool → Bool
-not true = false
-not false = true
-
 -- some prefix holds a key
 unfoldable pub holds : Term → Bool
 holds nil = false
-holds (pre a k t) = or (not (eqb k 0)) (holds t)
-holds (cho t u) = or (holds t) (holds u)
-holds (par t u) = or (holds t) (holds u)
+holds (pre a k t) = not (eqb k 0) || holds t
+holds (cho t u) = holds t || holds u
+holds (par t u) = holds t || holds u
 holds (res a t) = holds t
 
 -- some prefix holds the key m
 unfoldable pub stands : Key → Term → Bool
 stands m nil = false
-stands m (pre a k t) = or (eqb m k) (stands m t)
-stands m (cho t u) = or (stands m t) (stands m u)
-stands m (par t u) = or (stands m t) (stands m u)
+stands m (pre a k t) = eqb m k || stands m t
+stands m (cho t u) = stands m t || stands m u
+stands m (par t u) = stands m t || stands m u
 stands m (res a t) = stands m t
 
 -- the step, or stuck where the test asks for it
@@ -67,15 +62,15 @@ overChoice left right (step l) stuck = stuck
 overChoice left right still stuck = stuck
 overChoice left right stuck x = stuck
 
-abbrev pub joined : {A : Type 0} → Dec A → Move
-joined (yes c) = step 0
-joined (no c) = stuck
+abbrev pub joinedIf : {A : Type 0} → Dec A → Move
+joinedIf (yes c) = step 0
+joinedIf (no c) = stuck
 
 -- a parallel passes the step of one side, or joins two with complementary labels
 abbrev pub overParallel : Move → Move → Move
 overParallel still x = x
 overParallel (step l) still = step l
-overParallel (step l) (step k) = joined (co? l k)
+overParallel (step l) (step k) = joinedIf (co? l k)
 overParallel (step l) stuck = stuck
 overParallel stuck x = stuck
 

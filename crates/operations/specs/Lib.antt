@@ -2,3 +2,4 @@
 pub mod Order
 pub mod Change
 pub mod Ask
+pub mod Runs

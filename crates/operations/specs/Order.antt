@@ -2,7 +2,7 @@
 use mathlib.Core.Path.{_≡_}
 use mathlib.Core.Logic.{_⊎_, _≢_}
 use mathlib.Core.List.{List, [], _∷_}
-use Prim.Native.Nat.{ℕ, zero, suc, _<_, _≤_}
+use Prim.Native.Nat.{zero, suc, _<_, _≤_}
 use Rattle.ccsk.specs.Numbers.{LeastFree}
 use Rattle.ccsk.specs.Term.{Term, Label, Key, Node, keys}
 use Rattle.ccsk.specs.Place.{ForwardAt, IsPrefix}

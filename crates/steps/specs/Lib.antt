@@ -1,0 +1,2 @@
+-- The answers of forward step and undo.
+pub mod Plan

@@ -1,0 +1,4 @@
+-- Laws that the functions' proofs cite.
+pub mod Tests
+pub mod Parts
+pub mod Surveys

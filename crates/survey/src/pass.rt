@@ -1,0 +1,96 @@
+// One pass over a record: it is read, and what is found of it is gathered from the leaves to the root.
+use crate::part::{at_nil, at_prefix, at_restriction, at_two};
+use crate::seen::{narrow, wide, Ask, Seen};
+use reader::{node_at, Head, DEPTH, NODES, NO_RECORD, OVER_LIMIT, PARALLEL, PREFIX};
+ghost use mathlib.Core.Path.{_≡_};
+ghost use Prim.Native.Nat.{_+_, _*_, _≤_, _<_};
+ghost use lib.ListN.{length, getD};
+ghost use Rattle.format.specs.Limits.{node-limit};
+ghost use Rattle.format.specs.Read.{keyOf};
+ghost use Rattle.survey.specs.Survey.{OverOne, Surveyed, Looked};
+
+// What a pass over the term at a place comes to: a refusal, or where the term ends, how many nodes may still come, and what was found.
+pub enum Outcome {
+    Refused(u8),
+    Part {
+        next: u16,
+        left: u16,
+        seen: Seen,
+    },
+}
+
+// What a pass over a whole record comes to.
+pub enum Whole {
+    Refused(u8),
+    Seen(Seen),
+}
+
+// A key from its two bytes.
+pub fn key_of(high: u8, low: u8) -> u16
+    ensures { λ r. ⌜ r ≡ keyOf high low ⌝ }
+{
+    high as u16 * 256 + low as u16
+}
+
+// Of a prefix or a restriction at `at`, node n. The caller has seen that its body stands there.
+fn at_one(s: &[u8], at: usize, kind: usize, n: usize, ask: Ask, below: Seen) -> Seen
+    requires { ⌜ (at + 1 < length (now s)) × (kind ≡ 1 → at + 3 < length (now s)) × (below .count < 65535) × (at < 65536) × (n < 65536) ⌝ }
+    ensures { λ r. ⌜ OverOne (now (s .entry)) at kind n ask below r ⌝ }
+{
+    if kind == PREFIX {
+        let key = key_of(s[at + 2], s[at + 3]);
+        return at_prefix(ask, narrow(at), narrow(n), s[at + 1], key, below);
+    }
+    at_restriction(s[at + 1], below)
+}
+
+// The term at `at`: at most `deep` levels and `left` nodes may come.
+fn survey(s: &[u8], at: usize, deep: usize, left: usize, ask: Ask) -> Outcome
+    requires { ⌜ (left ≤ node-limit) × (at + 4 * left ≤ 4 * node-limit) ⌝ }
+    ensures { λ r. ⌜ Surveyed (now (s .entry)) at deep left ask r ⌝ }
+{
+    if s.len() <= at {
+        return Outcome::Refused(NO_RECORD);
+    }
+    if deep == 0 {
+        return Outcome::Refused(OVER_LIMIT);
+    }
+    if left == 0 {
+        return Outcome::Refused(OVER_LIMIT);
+    }
+    match node_at(s, at) {
+        Head::Bad => Outcome::Refused(NO_RECORD),
+        Head::Node { kind, children, next } => {
+            if children == 0 {
+                return Outcome::Part { next: narrow(next), left: narrow(left - 1), seen: at_nil() };
+            }
+            match survey(s, next, deep - 1, left - 1, ask) {
+                Outcome::Refused(c) => Outcome::Refused(c),
+                Outcome::Part { next: second, left: rest, seen: below } => {
+                    if children == 1 {
+                        return Outcome::Part { next: second, left: rest, seen: at_one(s, at, kind, NODES - left, ask, below) };
+                    }
+                    match survey(s, wide(second), deep - 1, wide(rest), ask) {
+                        Outcome::Refused(c) => Outcome::Refused(c),
+                        Outcome::Part { next: end, left: last, seen: other } => Outcome::Part { next: end, left: last, seen: at_two(kind == PARALLEL, below, other) },
+                    }
+                }
+            }
+        }
+    }
+}
+
+// The whole record.
+pub fn survey_all(s: &[u8], ask: Ask) -> Whole
+    ensures { λ r. ⌜ Looked (now (s .entry)) ask r ⌝ }
+{
+    match survey(s, 0, DEPTH, NODES, ask) {
+        Outcome::Refused(c) => Whole::Refused(c),
+        Outcome::Part { next, left: _, seen } => {
+            if wide(next) < s.len() {
+                return Whole::Refused(NO_RECORD);
+            }
+            Whole::Seen(seen)
+        }
+    }
+}

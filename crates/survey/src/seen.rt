@@ -1,0 +1,201 @@
+// What one pass finds of a part of a record, and how the findings of its parts combine at each node.
+ghost use mathlib.Core.Path.{_≡_};
+ghost use mathlib.Core.Bool.{Bool, true, false};
+ghost use Prim.Native.Nat.{_<_};
+ghost use Rattle.moves.specs.Move.{overPrefix, overChoice, overParallel, overRestriction};
+ghost use Rattle.ccsk.specs.Term.{Co, On};
+ghost use Rattle.survey.specs.Seen.{moveOf, choiceOf, mayOf, Tells};
+
+// The chosen prefixes of a part: none is there; all that are there step together, with this label; or they do not.
+pub enum Move {
+    Still,
+    Step(u8),
+    Stuck,
+}
+
+// A step that is asked about: an undo of the key, or a forward step with it at the node p, or at p and q if q is not 0.
+pub struct Ask {
+    pub undo: bool,
+    pub p: u16,
+    pub q: u16,
+    pub key: u16,
+}
+
+// Of a part: whether a prefix holds a key, whether the key asked about stands there, how many chosen prefixes it has,
+// where the bytes of the first two begin, and their move.
+pub struct Seen {
+    pub any: bool,
+    pub stands: bool,
+    pub count: u16,
+    pub first: u16,
+    pub second: u16,
+    pub moved: Move,
+}
+
+// A 16-bit number as an index.
+pub fn wide(x: u16) -> usize
+    ensures { λ r. ⌜ r ≡ x ⌝ }
+{
+    x as usize
+}
+
+// An index that fits 16 bits: findings are kept small, since each level of the pass holds some.
+pub fn narrow(x: usize) -> u16
+    requires { ⌜ x < 65536 ⌝ }
+    ensures { λ r. ⌜ r ≡ x ⌝ }
+{
+    x as u16
+}
+
+// Whether a prefix at node n with this key is chosen.
+pub fn is_chosen(ask: Ask, n: u16, key: u16) -> bool
+    ensures { λ r. ⌜ r ≡ choiceOf ask n key ⌝ }
+{
+    if ask.undo {
+        return ask.key == key;
+    }
+    if n == ask.p {
+        return true;
+    }
+    if ask.q == 0 {
+        return false;
+    }
+    n == ask.q
+}
+
+// Whether a chosen prefix with this key may step: forward only if it is not done yet.
+pub fn may_step(ask: Ask, key: u16) -> bool
+    ensures { λ r. ⌜ r ≡ mayOf ask key ⌝ }
+{
+    if ask.undo {
+        return true;
+    }
+    key == 0
+}
+
+// The move of a prefix, from the move below it.
+pub fn over_prefix(chosen: bool, may: bool, done: bool, any: bool, action: u8, below: Move) -> Move
+    ensures { λ r. ⌜ moveOf r ≡ overPrefix chosen may done any action (moveOf below) ⌝ }
+{
+    match below {
+        Move::Still => {
+            if chosen {
+                if may {
+                    if any {
+                        return Move::Stuck;
+                    }
+                    return Move::Step(action);
+                }
+                return Move::Stuck;
+            }
+            Move::Still
+        }
+        Move::Step(l) => {
+            if chosen {
+                return Move::Stuck;
+            }
+            if done {
+                return Move::Step(l);
+            }
+            Move::Stuck
+        }
+        Move::Stuck => Move::Stuck,
+    }
+}
+
+// Whether the two labels are a name and its co-name.
+pub fn complementary(l: u8, k: u8) -> bool
+    ensures { λ r. ⌜ Tells r (Co l k) ⌝ }
+{
+    if l == 0 {
+        return false;
+    }
+    if l < 128 {
+        return k == l + 128;
+    }
+    if l == 128 {
+        return false;
+    }
+    k == l - 128
+}
+
+// Whether the label is the name or its co-name.
+pub fn is_on(name: u8, l: u8) -> bool
+    ensures { λ r. ⌜ Tells r (On name l) ⌝ }
+{
+    if name == 0 {
+        return false;
+    }
+    if 127 < name {
+        return false;
+    }
+    if l == name {
+        return true;
+    }
+    l == name + 128
+}
+
+// The move of a choice, from whether each side holds a key and the moves of the sides.
+pub fn over_choice(lkeys: bool, rkeys: bool, left: Move, right: Move) -> Move
+    ensures { λ r. ⌜ moveOf r ≡ overChoice lkeys rkeys (moveOf left) (moveOf right) ⌝ }
+{
+    match left {
+        Move::Still => match right {
+            Move::Still => Move::Still,
+            Move::Step(k) => {
+                if lkeys {
+                    return Move::Stuck;
+                }
+                Move::Step(k)
+            }
+            Move::Stuck => Move::Stuck,
+        },
+        Move::Step(l) => match right {
+            Move::Still => {
+                if rkeys {
+                    return Move::Stuck;
+                }
+                Move::Step(l)
+            }
+            Move::Step(_) => Move::Stuck,
+            Move::Stuck => Move::Stuck,
+        },
+        Move::Stuck => Move::Stuck,
+    }
+}
+
+// The move of a parallel, from the moves of its sides.
+pub fn over_parallel(left: Move, right: Move) -> Move
+    ensures { λ r. ⌜ moveOf r ≡ overParallel (moveOf left) (moveOf right) ⌝ }
+{
+    match left {
+        Move::Still => right,
+        Move::Step(l) => match right {
+            Move::Still => Move::Step(l),
+            Move::Step(k) => {
+                if complementary(l, k) {
+                    return Move::Step(0);
+                }
+                Move::Stuck
+            }
+            Move::Stuck => Move::Stuck,
+        },
+        Move::Stuck => Move::Stuck,
+    }
+}
+
+// The move of a restriction, from the move below it.
+pub fn over_restriction(name: u8, below: Move) -> Move
+    ensures { λ r. ⌜ moveOf r ≡ overRestriction name (moveOf below) ⌝ }
+{
+    match below {
+        Move::Still => Move::Still,
+        Move::Step(l) => {
+            if is_on(name, l) {
+                return Move::Stuck;
+            }
+            Move::Step(l)
+        }
+        Move::Stuck => Move::Stuck,
+    }
+}

@@ -1,0 +1,92 @@
+//! Which calls are made on a record: every operation, with numbers on both sides of what is allowed.
+
+use crate::call::{Call, Side};
+use crate::records::{Random, EDGE_KEYS};
+
+/// One call of each operation.
+pub const ONE_OF_EACH: [Call; 10] = [
+    Call::Read,
+    Call::Forward { p: 0, q: 0, key: 1 },
+    Call::Undo { key: 1 },
+    Call::First { p: 0, q: 0 },
+    Call::Count,
+    Call::LeastFree,
+    Call::UndoListing { row: 4096, fill: 0 },
+    Call::Waiting { key: 1, row: 4096, fill: 0 },
+    Call::Blank,
+    Call::Verdict,
+];
+
+/// The distinct keys of a record in order of appearance; none of a record that is refused.
+pub fn keys(record: &[u8]) -> Vec<u16> {
+    let mut seen = std::collections::HashSet::new();
+    let nodes = reference::walk(record).unwrap_or_default();
+    nodes.iter().map(|node| node.key()).filter(|&key| key != 0 && seen.insert(key)).collect()
+}
+
+/// The calls for one record.
+pub fn calls(random: &mut Random, record: &[u8]) -> Vec<Call> {
+    let mut calls = ONE_OF_EACH.to_vec();
+    let keys = keys(record);
+    let nodes = reference::read(record).unwrap_or(9);
+    let any_key = |random: &mut Random| match random.below(3) {
+        0 => random.pick(&EDGE_KEYS),
+        1 if !keys.is_empty() => random.pick(&keys),
+        _ => random.below(nodes + 2) as u16,
+    };
+    let any_place = |random: &mut Random| match random.below(20) {
+        0 => random.next() as u16,
+        1 => 65535,
+        _ => random.below(nodes + 1) as u16,
+    };
+    for _ in 0..4 {
+        let (p, q) = (any_place(random), any_place(random));
+        calls.push(Call::First { p, q: if random.percent(30) { 0 } else { q } });
+        calls.push(Call::Forward { p, q: if random.percent(30) { 0 } else { q }, key: any_key(random) });
+    }
+    calls.push(Call::First { p: 65535, q: 65535 });
+    steps(random, record, &mut calls, any_key);
+    for key in [0, any_key(random), any_key(random), any_key(random)] {
+        calls.push(Call::Undo { key });
+        waiting_rows(record, key, &mut calls);
+    }
+    undo_rows(record, &mut calls);
+    calls
+}
+
+/// The first forward steps and some later ones: asked for, taken, and taken with keys that may stand.
+fn steps(random: &mut Random, record: &[u8], calls: &mut Vec<Call>, any_key: impl Fn(&mut Random) -> u16) {
+    let mut steps = Vec::new();
+    let _ = reference::for_each_step(record, |p, q, _| steps.push((p, q)));
+    let least = reference::least_free(record).unwrap_or(1);
+    for i in 0..steps.len().min(4) {
+        let (p, q) = steps[if i == 0 { 0 } else { random.below(steps.len()) }];
+        calls.push(Call::First { p, q });
+        calls.push(Call::First { p, q: q + 1 });
+        calls.push(Call::Forward { p, q, key: least });
+        calls.push(Call::Forward { p, q, key: any_key(random) });
+        calls.push(Call::Forward { p, q: 0, key: least });
+        calls.push(Call::Forward { p: q, q: p, key: least });
+    }
+    if let Some(&(p, q)) = steps.last() {
+        calls.push(Call::First { p, q: q + 1 });
+        calls.push(Call::Forward { p, q, key: 65535 });
+    }
+}
+
+/// Rows of length 0, one too short, exact and longer.
+fn row_lengths(count: usize) -> [(usize, u16); 4] {
+    [(0, 0), (count.saturating_sub(1), 77), (count, 65535), (count + 3, 4660)]
+}
+
+fn waiting_rows(record: &[u8], key: u16, calls: &mut Vec<Call>) {
+    let list = Side::Reference.run(&Call::Waiting { key, row: 4096, fill: 0 }, record);
+    let count = list.map_or(0, |list| list.answer as u16);
+    calls.extend(row_lengths(count.into()).map(|(row, fill)| Call::Waiting { key, row, fill }));
+}
+
+fn undo_rows(record: &[u8], calls: &mut Vec<Call>) {
+    let list = Side::Reference.run(&Call::UndoListing { row: 4096, fill: 0 }, record);
+    let count = list.map_or(0, |list| list.answer as u16);
+    calls.extend(row_lengths(count.into()).map(|(row, fill)| Call::UndoListing { row, fill }));
+}

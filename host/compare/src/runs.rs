@@ -1,0 +1,90 @@
+//! Whole runs: a sound record is taken back key by key in a random order, then done again by its places.
+
+use crate::call::{hex, Call, Side};
+use crate::random;
+use crate::records::{self, Random};
+
+/// True if every run comes to the blank form in as many undos as there are keys, and back to the same bytes.
+pub fn check(runs: u64, seed: u64) -> bool {
+    let mut random = Random(seed);
+    let mut undos = 0;
+    for run in 0..runs {
+        let record = records::sound(&mut random);
+        if reference::read(&record).is_err() {
+            continue;
+        }
+        match there_and_back(&mut random, &record) {
+            Ok(count) => undos += count,
+            Err(fault) => {
+                println!("DIFFERENCE in run {run}: {fault}\n  record {}", hex(&record));
+                return false;
+            }
+        }
+    }
+    println!("runs {runs} {seed}: {undos} undos and as many steps agree");
+    undos > 0
+}
+
+/// A step taken back: its places, key and label.
+struct Taken {
+    p: u16,
+    q: u16,
+    key: u16,
+    label: u64,
+}
+
+/// Takes everything back through the library and does it again; answers the number of undos.
+fn there_and_back(random: &mut Random, start: &[u8]) -> Result<u64, String> {
+    let mut record = start.to_vec();
+    let mut taken = Vec::new();
+    loop {
+        let listing = ask(&Call::UndoListing { row: 4096, fill: 0 }, &record)?;
+        let allowed = listing.answer as usize;
+        if allowed == 0 {
+            break;
+        }
+        let key = random.pick(&listing.row[..allowed]);
+        let (p, q) = places(&record, key);
+        let outcome = ask(&Call::Undo { key }, &record)?;
+        if outcome.answer >= 256 {
+            return Err(format!("key {key} is listed but its undo is refused, after {} undos", taken.len()));
+        }
+        taken.push(Taken { p, q, key, label: outcome.answer });
+        record = outcome.record;
+    }
+    let count = ask(&Call::Count, start)?.answer;
+    let blank = ask(&Call::Blank, start)?;
+    if taken.len() as u64 != count || blank.answer != count || record != blank.record {
+        return Err(format!("{} undos, {count} keys, or not the blank form at the end", taken.len()));
+    }
+    for step in taken.iter().rev() {
+        let outcome = ask(&Call::Forward { p: step.p, q: step.q, key: step.key }, &record)?;
+        if outcome.answer != step.label {
+            return Err(format!("step {} {} key {} answers {}", step.p, step.q, step.key, outcome.answer));
+        }
+        record = outcome.record;
+    }
+    if record != start {
+        return Err("the same steps end in other bytes".into());
+    }
+    Ok(count)
+}
+
+/// The library's outcome, held against the reference; the reference's own where there is no entry yet.
+fn ask(call: &Call, record: &[u8]) -> Result<crate::call::Outcome, String> {
+    let right = Side::Reference.run(call, record).expect("the reference has every operation");
+    if let Some(found) = Side::Archive.run(call, record) {
+        if found != right {
+            random::report("a run", call, record, &found, &right);
+            return Err(call.to_string());
+        }
+    }
+    Ok(right)
+}
+
+/// The one or two nodes that hold the key; q is 0 for one.
+fn places(record: &[u8], key: u16) -> (u16, u16) {
+    let nodes = reference::walk(record).expect("a sound record is readable");
+    let mut holding = (0..).zip(&nodes).filter(|(_, node)| node.key() == key).map(|(number, _)| number);
+    (holding.next().unwrap_or(0), holding.next().unwrap_or(0))
+}

@@ -1,0 +1,151 @@
+//! Records of a given size in the shapes that are hard for one or another way of looking at a term.
+
+/// The name of a shape and how to build a record of that shape with about so many nodes, at most so many.
+pub type Shape = (&'static str, fn(usize) -> Vec<u8>);
+
+pub const SHAPES: [Shape; 14] = [
+    ("comb, blank", |nodes| comb(nodes, false)),
+    ("comb, done", |nodes| comb(nodes, true)),
+    ("deep prefixes, half done", deep),
+    ("balanced, half done", balanced_half),
+    ("choices, blank", |nodes| choices(nodes, false)),
+    ("choices, done", |nodes| choices(nodes, true)),
+    ("one hidden choice, blank", hidden_choice),
+    ("own restrictions, blank", own_restrictions),
+    ("hidden apart, blank", hidden_apart),
+    ("half a, half a', blank", |nodes| halves(nodes, false)),
+    ("half a, half a', joined", |nodes| halves(nodes, true)),
+    ("pairs of long chains", chain_pairs),
+    ("causal chain", |nodes| causal(nodes, false)),
+    ("causal chain, backwards", |nodes| causal(nodes, true)),
+];
+
+const CHOICE: u8 = 2;
+const PARALLEL: u8 = 3;
+
+fn prefix(action: u8, key: usize, rest: Vec<u8>) -> Vec<u8> {
+    let mut bytes = vec![1, action, (key >> 8) as u8, key as u8];
+    bytes.extend(rest);
+    bytes
+}
+
+fn nil() -> Vec<u8> {
+    vec![0]
+}
+
+fn both(kind: u8, left: &[u8], right: &[u8]) -> Vec<u8> {
+    [&[kind], left, right].concat()
+}
+
+fn restriction(name: u8, rest: Vec<u8>) -> Vec<u8> {
+    [&[4, name], rest.as_slice()].concat()
+}
+
+/// All parts under a balanced tree of this kind.
+fn balanced(kind: u8, parts: &[Vec<u8>]) -> Vec<u8> {
+    match parts {
+        [part] => part.clone(),
+        _ => {
+            let (left, right) = parts.split_at(parts.len() / 2);
+            both(kind, &balanced(kind, left), &balanced(kind, right))
+        }
+    }
+}
+
+/// p1 | (p2 | (p3 | ..)).
+fn right_comb(parts: &[Vec<u8>]) -> Vec<u8> {
+    let mut parts = parts.iter().rev();
+    let last = parts.next().expect("at least one part").clone();
+    parts.fold(last, |rest, part| both(PARALLEL, part, &rest))
+}
+
+fn name(i: usize) -> u8 {
+    1 + (i % 127) as u8
+}
+
+/// A right comb of parallels; past the depth limit, a comb of combs.
+fn comb(nodes: usize, done: bool) -> Vec<u8> {
+    let leaves: Vec<Vec<u8>> = (1..=nodes / 3).map(|i| prefix(name(i), if done { i } else { 0 }, nil())).collect();
+    let combs: Vec<Vec<u8>> = leaves.chunks(leaves.len().div_ceil(200)).map(right_comb).collect();
+    right_comb(&combs)
+}
+
+/// Chains of 200 prefixes side by side, the upper half of each done.
+fn deep(nodes: usize) -> Vec<u8> {
+    let chains: Vec<Vec<u8>> = (0..(nodes / 202).max(1))
+        .map(|i| {
+            (0..200).rev().fold(nil(), |rest, at| prefix(name(i), if at < 100 { i * 100 + at + 1 } else { 0 }, rest))
+        })
+        .collect();
+    balanced(PARALLEL, &chains)
+}
+
+/// A balanced tree of parallels, every other leaf done.
+fn balanced_half(nodes: usize) -> Vec<u8> {
+    let leaves: Vec<Vec<u8>> =
+        (1..=nodes / 3).map(|i| prefix(name(i), if i % 2 == 0 { i } else { 0 }, nil())).collect();
+    balanced(PARALLEL, &leaves)
+}
+
+/// Choices of eight side by side, names and co-names in turn; done: the last of each eight.
+fn choices(nodes: usize, done: bool) -> Vec<u8> {
+    let eight = |i: usize| {
+        let leaf = |j: usize| {
+            let action = 1 + (j % 2) as u8 * 128;
+            prefix(action, if done && j == 7 { i + 1 } else { 0 }, nil())
+        };
+        balanced(CHOICE, &(0..8).map(leaf).collect::<Vec<_>>())
+    };
+    balanced(PARALLEL, &(0..nodes / 24).map(eight).collect::<Vec<_>>())
+}
+
+/// Complementary prefixes side by side, each under a restriction of its own: no step at all.
+fn own_restrictions(nodes: usize) -> Vec<u8> {
+    let part = |i: usize| restriction(1, prefix(1 + (i % 2) as u8 * 128, 0, nil()));
+    balanced(PARALLEL, &(0..nodes / 4).map(part).collect::<Vec<_>>())
+}
+
+/// A single choice of many a and a' under a restriction on a: every pair is complementary and none can join.
+fn hidden_choice(nodes: usize) -> Vec<u8> {
+    let leaf = |i: usize| prefix(1 + (i % 2) as u8 * 128, 0, nil());
+    restriction(1, balanced(CHOICE, &(0..nodes / 3).map(leaf).collect::<Vec<_>>()))
+}
+
+/// All a on the left under an outer restriction, all a' on the right each under one more of its own: no step at all.
+fn hidden_apart(nodes: usize) -> Vec<u8> {
+    let open = |_| prefix(1, 0, nil());
+    let shut = |_| restriction(1, prefix(129, 0, nil()));
+    let left = balanced(PARALLEL, &(0..nodes / 7).map(open).collect::<Vec<_>>());
+    let right = balanced(PARALLEL, &(0..nodes / 7).map(shut).collect::<Vec<_>>());
+    restriction(1, both(PARALLEL, &left, &right))
+}
+
+/// All a on the left, all a' on the right; joined: the i-th with the i-th.
+fn halves(nodes: usize, joined: bool) -> Vec<u8> {
+    let half = |action: u8| {
+        let leaf = |i: usize| prefix(action, if joined { i } else { 0 }, nil());
+        balanced(PARALLEL, &(1..=nodes / 6).map(leaf).collect::<Vec<_>>())
+    };
+    both(PARALLEL, &half(1), &half(129))
+}
+
+/// Two chains of 200 prefixes that made all their steps together, and so on.
+fn chain_pairs(nodes: usize) -> Vec<u8> {
+    let length = 200.min(nodes / 2 - 2);
+    let pair = |i: usize| {
+        let chain = |action: u8| (1..=length).rev().fold(nil(), |rest, at| prefix(action, i * length + at, rest));
+        both(PARALLEL, &chain(1), &chain(129))
+    };
+    balanced(PARALLEL, &(0..(nodes / (2 * length + 4)).max(1)).map(pair).collect::<Vec<_>>())
+}
+
+/// Key 1 above 2, 2 above 3 and so on, each in a part of its own: a'[1].b[2].0 | b'[2].a[3].0 | ..
+fn causal(nodes: usize, backwards: bool) -> Vec<u8> {
+    let name = |key: usize| 1 + (key % 2) as u8;
+    let part = |key: usize| prefix(name(key) + 128, key, prefix(name(key + 1), key + 1, nil()));
+    let mut parts: Vec<Vec<u8>> = (1..=nodes / 4).map(part).collect();
+    if backwards {
+        parts.reverse();
+    }
+    balanced(PARALLEL, &parts)
+}

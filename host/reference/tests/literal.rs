@@ -1,0 +1,273 @@
+//! Holds the fast operations against the rules of document 01, written down once more word by word on the term.
+
+#[derive(Clone)]
+enum Term {
+    Nil,
+    Prefix(u8, u16, Box<Term>),
+    Choice(Box<Term>, Box<Term>),
+    Parallel(Box<Term>, Box<Term>),
+    Restriction(u8, Box<Term>),
+}
+use Term::*;
+
+#[derive(Clone, Copy, PartialEq)]
+enum Way {
+    Forward,
+    Back,
+}
+
+/// A step's label and places.
+type Step = (u8, Vec<u16>);
+
+impl Term {
+    /// This term and all below it.
+    fn parts(&self) -> Vec<&Term> {
+        let mut parts = vec![self];
+        match self {
+            Nil => (),
+            Prefix(_, _, rest) | Restriction(_, rest) => parts.extend(rest.parts()),
+            Choice(left, right) | Parallel(left, right) => {
+                parts.extend(left.parts());
+                parts.extend(right.parts());
+            }
+        }
+        parts
+    }
+
+    /// Action and key of every done prefix.
+    fn marks(&self) -> Vec<(u8, u16)> {
+        let done = |part: &&Term| match part {
+            Prefix(action, key, _) if *key != 0 => Some((*action, *key)),
+            _ => None,
+        };
+        self.parts().iter().filter_map(done).collect()
+    }
+
+    fn keys(&self) -> Vec<u16> {
+        self.marks().iter().map(|(_, key)| *key).collect()
+    }
+
+    fn times(&self, key: u16) -> usize {
+        self.keys().iter().filter(|other| **other == key).count()
+    }
+
+    fn bytes(&self) -> Vec<u8> {
+        match self {
+            Nil => vec![0],
+            Prefix(action, key, rest) => [vec![1, *action, (key >> 8) as u8, *key as u8], rest.bytes()].concat(),
+            Choice(left, right) => [vec![2], left.bytes(), right.bytes()].concat(),
+            Parallel(left, right) => [vec![3], left.bytes(), right.bytes()].concat(),
+            Restriction(name, rest) => [vec![4, *name], rest.bytes()].concat(),
+        }
+    }
+
+    /// Rules of a step; `at` is the number of this node.
+    fn steps(&self, at: u16, m: u16, way: Way) -> Vec<Step> {
+        match self {
+            Nil => vec![],
+            Prefix(action, n, rest) => {
+                let own = if way == Way::Forward { 0 } else { m };
+                let mut steps = Vec::new();
+                if *n == own && rest.keys().is_empty() {
+                    steps.push((*action, vec![at]));
+                }
+                if *n != 0 && m != *n {
+                    steps.extend(rest.steps(at + 1, m, way));
+                }
+                steps
+            }
+            Choice(left, right) => {
+                let mut steps = Vec::new();
+                if right.keys().is_empty() {
+                    steps.extend(left.steps(at + 1, m, way));
+                }
+                if left.keys().is_empty() {
+                    steps.extend(right.steps(at + 1 + left.parts().len() as u16, m, way));
+                }
+                steps
+            }
+            Parallel(left, right) => {
+                let lefts = left.steps(at + 1, m, way);
+                let rights = right.steps(at + 1 + left.parts().len() as u16, m, way);
+                let mut steps = Vec::new();
+                for (a, p) in &lefts {
+                    for (b, q) in &rights {
+                        if *a != 0 && *b != 0 && a.abs_diff(*b) == 128 {
+                            steps.push((0, [p.as_slice(), q].concat()));
+                        }
+                    }
+                }
+                if right.times(m) == 0 {
+                    steps.extend(lefts);
+                }
+                if left.times(m) == 0 {
+                    steps.extend(rights);
+                }
+                steps
+            }
+            Restriction(name, rest) => {
+                let mut steps = rest.steps(at + 1, m, way);
+                steps.retain(|(label, _)| label != name && *label != name + 128);
+                steps
+            }
+        }
+    }
+
+    /// The seven parts of soundness, each for itself.
+    fn verdict(&self) -> u8 {
+        let (parts, marks) = (self.parts(), self.marks());
+        let twice: Vec<u16> = self.keys().into_iter().filter(|key| self.times(*key) == 2).collect();
+        let actions = |key: u16| marks.iter().filter(move |mark| mark.1 == key).map(|mark| mark.0);
+        let complementary = |key: &u16| {
+            let (a, b) = (actions(*key).next().unwrap(), actions(*key).nth(1).unwrap());
+            a != 0 && b != 0 && a.abs_diff(b) == 128
+        };
+        let apart = |part: &&Term, key: u16| matches!(part, Parallel(l, r) if l.times(key) == 1 && r.times(key) == 1);
+        let shut = |part: &&Term| match part {
+            Restriction(name, rest) => {
+                rest.marks().iter().all(|(action, key)| action & 127 != *name || rest.times(*key) == 2)
+            }
+            _ => true,
+        };
+        let holds = [
+            !parts.iter().any(|part| matches!(part, Prefix(_, 0, rest) if !rest.keys().is_empty())),
+            !parts.iter().any(|part| matches!(part, Choice(l, r) if !l.keys().is_empty() && !r.keys().is_empty())),
+            self.keys().iter().all(|key| self.times(*key) <= 2),
+            twice.iter().all(complementary),
+            twice.iter().all(|key| parts.iter().any(|part| apart(part, *key))),
+            parts.iter().all(shut),
+            !self.keys().iter().any(|key| self.reaches(*key).contains(key)),
+        ];
+        holds.iter().position(|holds| !holds).map_or(0, |number| number as u8 + 1)
+    }
+
+    /// The keys other than m below a prefix that holds m.
+    fn waits_for(&self, m: u16) -> Vec<u16> {
+        let mut keys = Vec::new();
+        for part in self.parts() {
+            if let Prefix(_, key, rest) = part {
+                if *key == m {
+                    keys.extend(rest.keys().into_iter().filter(|key| *key != m));
+                }
+            }
+        }
+        keys.sort();
+        keys.dedup();
+        keys
+    }
+
+    /// `waits_for`, closed over chains.
+    fn reaches(&self, m: u16) -> Vec<u16> {
+        let mut keys = self.waits_for(m);
+        let mut at = 0;
+        while at < keys.len() {
+            for key in self.waits_for(keys[at]) {
+                if !keys.contains(&key) {
+                    keys.push(key);
+                }
+            }
+            at += 1;
+        }
+        keys
+    }
+}
+
+/// Numbers that look random (xorshift).
+struct Random(u64);
+
+impl Random {
+    fn below(&mut self, end: u64) -> u64 {
+        self.0 ^= self.0 << 13;
+        self.0 ^= self.0 >> 7;
+        self.0 ^= self.0 << 17;
+        (self.0 >> 11) % end
+    }
+
+    fn term(&mut self, size: u64, keys: u64) -> Term {
+        if size <= 1 {
+            return Nil;
+        }
+        match self.below(9) {
+            0..=3 => {
+                let action = [0, 1, 129, 1, 129, 2, 130][self.below(7) as usize];
+                let key = if self.below(2) == 0 { 0 } else { self.below(keys + 1) as u16 };
+                Prefix(action, key, self.term(size - 1, keys).into())
+            }
+            4 => Restriction(1 + self.below(2) as u8, self.term(size - 1, keys).into()),
+            kind => {
+                let left = 1 + self.below(size);
+                let (left, right) =
+                    (self.term(left, keys).into(), self.term(size.saturating_sub(left + 1), keys).into());
+                if kind == 5 {
+                    Choice(left, right)
+                } else {
+                    Parallel(left, right)
+                }
+            }
+        }
+    }
+}
+
+fn row_of(list: impl FnOnce(&mut [u16]) -> Result<usize, u8>) -> Vec<u16> {
+    let mut row = [0; 64];
+    let count = list(&mut row).unwrap();
+    row[..count].to_vec()
+}
+
+#[test]
+fn agrees_with_the_rules_as_written() {
+    let mut random = Random(88172645463325252);
+    for _ in 0..10_000 {
+        let size = 2 + random.below(14);
+        let keys = [0, 2, 4][random.below(3) as usize];
+        let term = random.term(size, keys);
+        let bytes = term.bytes();
+        let nodes = term.parts().len() as u16;
+        assert_eq!(reference::verdict(&bytes), Ok(term.verdict()), "{bytes:02x?}");
+        check_forward(&term, &bytes, nodes);
+        let mut undoable = Vec::new();
+        for key in 1..7 {
+            let undos = term.steps(0, key, Way::Back);
+            assert!(undos.len() <= 1, "at most one undo: {bytes:02x?}");
+            let expected = match undos.first() {
+                _ if term.times(key) == 0 => Err(7),
+                None => Err(8),
+                Some((label, _)) => Ok(*label),
+            };
+            let mut after = bytes.clone();
+            assert_eq!(reference::undo(&mut after, key), expected, "undo {key}: {bytes:02x?}");
+            let cleared = undos.first().map_or(0, |(_, places)| places.len());
+            let left = reference::walk(&after).unwrap().iter().filter(|node| node.key() == key).count();
+            assert_eq!(left, term.times(key) - cleared, "undo {key}: {bytes:02x?}");
+            undoable.extend(undos.first().map(|_| key));
+            if term.times(key) > 0 {
+                assert_eq!(row_of(|row| reference::waiting(&bytes, key, row)), term.waits_for(key), "{bytes:02x?}");
+            }
+        }
+        assert_eq!(row_of(|row| reference::undo_listing(&bytes, row)), undoable, "{bytes:02x?}");
+    }
+}
+
+/// Every pair of places: taken exactly if the rules have it, and found in order.
+fn check_forward(term: &Term, bytes: &[u8], nodes: u16) {
+    let key = reference::least_free(bytes).unwrap();
+    assert!(key == 1 || term.times(key - 1) > 0);
+    assert_eq!(term.times(key), 0);
+    let mut steps: Vec<(u16, u16, u8)> = Vec::new();
+    for (label, places) in term.steps(0, key, Way::Forward) {
+        steps.push((places[0], places.get(1).copied().unwrap_or(0), label));
+    }
+    steps.sort();
+    let mut listed = Vec::new();
+    reference::for_each_step(bytes, |p, q, label| listed.push((p, q, label))).unwrap();
+    assert_eq!(listed, steps, "{bytes:02x?}");
+    for p in 0..=nodes {
+        for q in 0..=nodes {
+            let step = steps.iter().find(|step| (step.0, step.1) == (p, q));
+            let answer = reference::forward(&mut bytes.to_vec(), p, q, key);
+            assert_eq!(answer.ok(), step.map(|step| step.2), "{p} {q}: {bytes:02x?}");
+            let first = steps.iter().find(|step| (step.0, step.1) >= (p, q));
+            assert_eq!(reference::first(bytes, p, q), Ok(first.copied()), "{p} {q}: {bytes:02x?}");
+        }
+    }
+}

@@ -1,0 +1,115 @@
+/*
+ * concoursel.h: the proved core of a laboratory bench controller, for C.
+ *
+ * THE RECORD
+ *
+ * A record holds a bench method and how far it has been carried out. It is a term in preorder: each node is
+ * one byte of kind, then a body whose length the kind fixes, then its children.
+ *
+ *   kind  node         body                                             children
+ *   0     nil          none                                             0
+ *   1     prefix       3 bytes: action, key high byte, key low byte     1
+ *   2     choice       none                                             2
+ *   3     parallel     none                                             2
+ *   4     restriction  1 byte: name                                     1
+ *
+ * A prefix is one step and what comes after it. A choice goes on with one of its two sides. A parallel has two
+ * parts at work side by side. A restriction keeps a channel inside: a step on it needs both halves below.
+ *
+ *   action     0          tau: a step without a channel
+ *              1 to 127   a channel's name
+ *              128        no action; refused
+ *              129 to 255 the co-names of 1 to 127. Two parts share a step by an action and its complement,
+ *                         which is 128 more or less; tau has none
+ *   key        0          not done
+ *              1 to 65535 done. A shared step puts the same key at both of its places
+ *   name       1 to 127   the channel that a restriction keeps inside
+ *
+ * Nodes are numbered from 0 in preorder; the root has depth 1. A place is the number of a prefix node.
+ * Limits: at most 4096 nodes and depth at most 256, so a record has at most 16384 bytes.
+ *
+ * ANSWERS AND REFUSALS
+ *
+ *   no.  cause                                                                  given by
+ *   0    none: the operation is done
+ *   1    bytes are no record (also: length 0, or bytes after the whole term)    all
+ *   2    over a limit: node 4097 or depth 257                                   all
+ *   3    key is 0                                                               forward, undo, waiting
+ *   4    p is no prefix node, or q is not 0 and is no prefix node or at most p  forward
+ *   5    key stands in the record already                                       forward
+ *   6    the rules derive no such step                                          forward
+ *   7    key stands nowhere in the record                                       undo, waiting
+ *   8    the rules derive no undo of this key                                   undo
+ *   9    lent row shorter than the list                                         undo_listing, waiting
+ *
+ * Reading goes from the left and the first offence decides between 1 and 2. Of the others the least number that
+ * applies is given, 9 only after all others. With a refusal every other field of the answer is 0, and no byte of
+ * the record and no place of a row has changed.
+ *
+ * MEMORY AND THREADS
+ *
+ * Record and row belong to the caller. They are lent for the time of a call; no pointer is kept and nothing is
+ * allocated. A pointer must be good for the length given with it; with length 0 any pointer will do, null too.
+ * Record and row must not overlap.
+ * The library has no state of its own: any number of threads may call it at once, each on a record (and row) that
+ * no other thread uses during the call.
+ */
+#ifndef CONCOURSEL_H
+#define CONCOURSEL_H
+
+#include <stddef.h>
+#include <stdint.h>
+
+#ifdef __cplusplus
+extern "C" {
+#endif
+
+/* Refusal numbers. */
+#define CONCOURSEL_DONE 0
+#define CONCOURSEL_NO_RECORD 1
+#define CONCOURSEL_OVER_LIMIT 2
+#define CONCOURSEL_KEY_ZERO 3
+#define CONCOURSEL_NO_PLACE 4
+#define CONCOURSEL_KEY_STANDS 5
+#define CONCOURSEL_NO_STEP 6
+#define CONCOURSEL_KEY_ABSENT 7
+#define CONCOURSEL_NO_UNDO 8
+#define CONCOURSEL_ROW_SHORT 9
+
+/*
+ * The 32-bit answer of forward and undo: refusal * 256 + label. The label is the action seen from outside: that of
+ * the one place, or 0 (tau) for a shared step.
+ */
+#define CONCOURSEL_STEP_REFUSAL(answer) ((uint8_t)((uint32_t)(answer) >> 8))
+#define CONCOURSEL_STEP_LABEL(answer) ((uint8_t)(answer))
+
+/*
+ * The 64-bit answer of all other operations:
+ * refusal * 2^48 + mark * 2^40 + label * 2^32 + p * 2^16 + q.
+ * An operation that answers a single number has it in the low 16 bits.
+ */
+#define CONCOURSEL_REFUSAL(answer) ((uint8_t)((uint64_t)(answer) >> 48))
+#define CONCOURSEL_NUMBER(answer) ((uint16_t)(answer))
+
+/* Reads the record. Answers its number of nodes. Refusals: 1, 2. */
+uint64_t concoursel_read(const uint8_t *record, size_t len);
+
+/*
+ * Makes a forward step with a key that stands nowhere yet: at the place p alone if q is 0, else at p and q together,
+ * p before q. The two key bytes of each place become the key; no other byte changes. Answers the label.
+ * Refusals: 1, 2, 3, 4, 5, 6.
+ */
+uint32_t concoursel_forward(uint8_t *record, size_t len, uint16_t p, uint16_t q, uint16_t key);
+
+/*
+ * Takes back the step of this key. There is at most one way: every place that holds the key gets key 0, both halves of
+ * a shared step or neither. Refused with 8 while a later step stands on one of them. Answers the label.
+ * Refusals: 1, 2, 3, 7, 8.
+ */
+uint32_t concoursel_undo(uint8_t *record, size_t len, uint16_t key);
+
+#ifdef __cplusplus
+}
+#endif
+
+#endif
