@@ -1,5 +1,7 @@
 // The entries for a host: every operation on numbers and byte slices. Each calls the proved operation and packs its answer into one number.
-use reader::{Count, Key, Node};
+use reader::Count;
+use reader::Key;
+use reader::Node;
 use steps::Moved;
 ghost use mathlib.Core.Path.{_≡_};
 ghost use Rattle.steps.specs.Plan.{refusal, label};

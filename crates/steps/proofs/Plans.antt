@@ -103,8 +103,10 @@ module _ (s : List ℕ) (bytes : Bytes s) (p q m : ℕ) (x : Seen) (w : (t : Ter
     forward-two z c r e = rw e (settles true (are-places-two t p q z (sym (w .2 .count) ∙ c)) make)
       where
         make : (l : Label) → stands m t ≡ false → move (forward-choice p q) (λ k. eqb k 0) 0 t ≡ step l → ForwardPlan s p q m (Two l (x .first) (x .second))
-        make l f g = ((inside 0 (x .first) (omega arith) (w .2 .first), inside 1 (x .second) (omega arith) (w .2 .second)),
-            forward-done-two s t p q m l (x .first) (x .second) encoded (w .1) pos z f g (sym (w .2 .count) ∙ c) (sym (w .2 .first)) (sym (w .2 .second)))
+        make l f g = (
+          (inside 0 (x .first) (omega arith) (w .2 .first), inside 1 (x .second) (omega arith) (w .2 .second)),
+          forward-done-two s t p q m l (x .first) (x .second) encoded (w .1) pos z f g (sym (w .2 .count) ∙ c) (sym (w .2 .first)) (sym (w .2 .second)),
+        )
 
 module _ (s : List ℕ) (bytes : Bytes s) (m : ℕ) (x : Seen) (w : (t : Term) × Reads s t × Found (ask-undo m) 0 0 t x) where
   abbrev u : Term
@@ -142,9 +144,10 @@ module _ (s : List ℕ) (bytes : Bytes s) (m : ℕ) (x : Seen) (w : (t : Term) �
     undo-one l e c = (within 0 (x .first) (omega arith) (w .2 .first), undo-done-one s u m l (x .first) written (w .1) above (sym (moves (Step l) e)) (sym (w .2 .count) ∙ c) (sym (w .2 .first)))
 
     pub undo-two : (l : ℕ) → x .moved ≡ Step l → x .count ≢ 1 → UndoPlan s m (Two l (x .first) (x .second))
-    undo-two l e c = let n : length (spots (undo-choice m) 0 0 u) ≡ 2 = ⊎-elim (λ z. absurd (c (w .2 .count ∙ z))) (λ z. z) (undo-spots s u m (w .1) above l (sym (moves (Step l) e))) in
-        ((within 0 (x .first) (omega (arith, w .2 .count)) (w .2 .first), within 1 (x .second) (omega (arith, w .2 .count)) (w .2 .second)),
-        undo-done-two s u m l (x .first) (x .second) written (w .1) above (sym (moves (Step l) e)) n (sym (w .2 .first)) (sym (w .2 .second)))
+    undo-two l e c = let n : length (spots (undo-choice m) 0 0 u) ≡ 2 = ⊎-elim (λ z. absurd (c (w .2 .count ∙ z))) (λ z. z) (undo-spots s u m (w .1) above l (sym (moves (Step l) e))) in (
+      (within 0 (x .first) (omega (arith, w .2 .count)) (w .2 .first), within 1 (x .second) (omega (arith, w .2 .count)) (w .2 .second)),
+      undo-done-two s u m l (x .first) (x .second) written (w .1) above (sym (moves (Step l) e)) n (sym (w .2 .first)) (sym (w .2 .second)),
+    )
 
 -- where a plan's places stand, once its case is known
 pub inside-one : (n : ℕ) (r : Plan) (l i : ℕ) → r ≡ One l i → Inside n r → i + 3 < n

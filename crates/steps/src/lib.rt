@@ -1,7 +1,12 @@
 // The two operations that change a record by a step: forward and undo. Each plans on the bytes as they are, and then writes; a refusal writes nothing.
-use survey::pass::{survey_all, Whole};
-use survey::seen::{wide, Ask, Move, Seen};
-use reader::{Key, Node};
+use reader::Key;
+use reader::Node;
+use survey::pass::Whole;
+use survey::pass::survey_all;
+use survey::seen::Ask;
+use survey::seen::Move;
+use survey::seen::Seen;
+use survey::seen::wide;
 ghost use mathlib.Core.Path.{_≡_};
 ghost use Prim.Native.Nat.{_+_, _<_, _/_, _%_};
 ghost use lib.ListN.{length, set};
@@ -87,7 +92,15 @@ fn settle(seen: Seen, two: bool) -> Plan
 fn plan_forward(s: &[u8], p: u16, q: u16, key: u16) -> Plan
     ensures { λ r. ⌜ Inside (length (now (s .entry))) r × ForwardStep (now (s .entry)) p q key (planned r) (told r) (carried key r (now (s .entry))) ⌝ }
 {
-    match survey_all(s, Ask { undo: false, p: p, q: q, key: key }) {
+    match survey_all(
+        s,
+        Ask {
+            undo: false,
+            p: p,
+            q: q,
+            key: key,
+        },
+    ) {
         Whole::Refused(c) => Plan::Refused(c),
         Whole::Seen(seen) => {
             if key == 0 {
@@ -114,7 +127,15 @@ fn plan_forward(s: &[u8], p: u16, q: u16, key: u16) -> Plan
 fn plan_undo(s: &[u8], key: u16) -> Plan
     ensures { λ r. ⌜ Inside (length (now (s .entry))) r × UndoStep (now (s .entry)) key (planned r) (told r) (carried 0 r (now (s .entry))) ⌝ }
 {
-    match survey_all(s, Ask { undo: true, p: 0, q: 0, key: key }) {
+    match survey_all(
+        s,
+        Ask {
+            undo: true,
+            p: 0,
+            q: 0,
+            key: key,
+        },
+    ) {
         Whole::Refused(c) => Plan::Refused(c),
         Whole::Seen(seen) => {
             if key == 0 {

@@ -30,7 +30,7 @@ module _ (ask : Ask) (i n a k : ℕ) (t : Term) (below r : Seen) (f : Found ask 
     count = rw c (omega (arith, f .count));
     first = rw c y;
     second = rw c (z ∙ f .first);
-    moved = rw (← f .any, ← f .moved) moved
+    moved = rw (← f .any, ← f .moved) moved;
   }
 
   pub found-passed : choiceOf ask n k ≡ false → r .count ≡ below .count → r .first ≡ below .first → r .second ≡ below .second → Found ask i n (pre a k t) r
@@ -41,7 +41,7 @@ module _ (ask : Ask) (i n a k : ℕ) (t : Term) (below r : Seen) (f : Found ask 
     count = rw c (x ∙ f .count);
     first = rw c (y ∙ f .first);
     second = rw c (z ∙ f .second);
-    moved = rw (← f .any, ← f .moved) moved
+    moved = rw (← f .any, ← f .moved) moved;
   }
 
 pub found-restricted : (ask : Ask) (i n a : ℕ) (t : Term) (below r : Seen) → Found ask (i + 2) (n + 1) t below
@@ -54,7 +54,7 @@ found-restricted ask i n a t below r f b s c x y m = record {
   count = c ∙ f .count;
   first = x ∙ f .first;
   second = y ∙ f .second;
-  moved = rw (← f .moved) m
+  moved = rw (← f .moved) m;
 }
 
 -- the first two of two lists in a row
@@ -111,7 +111,7 @@ module _ (ask : Ask) (i n : ℕ) (t u : Term) (one other : Seen) (f : Found ask 
       count = rw (two-spots p, length-append x y, ← f .count, ← g .count) count;
       first = rw (two-spots p) a;
       second = rw (two-spots p) b;
-      moved = moved
+      moved = moved;
     }
 
     pub found-right : one .count ≡ 0 → r .first ≡ other .first → r .second ≡ other .second → Found ask i n (two p t u) r

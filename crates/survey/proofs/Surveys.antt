@@ -149,12 +149,18 @@ module _ (s : List ℕ) (at d k : ℕ) (hs : at < length s) (hd : d ≡ 0 → �
                 (moved-to n (at + 1 + length (encode t)) _ _ u other (omega (arith, ends m z, first .1 .ends)) (omega (arith, first .1 .nodes)) (second .2))
 
             choice : kind ≡ 2 → Surveyed s at d k ask (found.Part n′ l′ x)
-            choice z = (cho t u, walks-choice s at d k hs hd hk kind children next H t n l (first .1) u n′ l′ (second .1) z,
-                subst (λ (p : Bool). Found ask at (node-limit - k) (two p t u) x) (ne-eqb kind 3 (λ y. omega arith)) (both 2 z refl))
+            choice z = (
+              cho t u,
+              walks-choice s at d k hs hd hk kind children next H t n l (first .1) u n′ l′ (second .1) z,
+              subst (λ (p : Bool). Found ask at (node-limit - k) (two p t u) x) (ne-eqb kind 3 (λ y. omega arith)) (both 2 z refl),
+            )
 
             parallel : kind ≡ 3 → Surveyed s at d k ask (found.Part n′ l′ x)
-            parallel z = (par t u, walks-parallel s at d k hs hd hk kind children next H t n l (first .1) u n′ l′ (second .1) z,
-                subst (λ (p : Bool). Found ask at (node-limit - k) (two p t u) x) (eq-eqb kind 3 z) (both 3 z refl))
+            parallel z = (
+              par t u,
+              walks-parallel s at d k hs hd hk kind children next H t n l (first .1) u n′ l′ (second .1) z,
+              subst (λ (p : Bool). Found ask at (node-limit - k) (two p t u) x) (eq-eqb kind 3 z) (both 3 z refl),
+            )
 
 -- the whole record
 module _ (s : List ℕ) (ask : Ask) (r : Outcome) (w : Surveyed s 0 depth-limit node-limit ask r) where

@@ -10,7 +10,7 @@ use lib.Dec.{eqb}
 use Rattle.ccsk.specs.Term.{Co, On}
 use Rattle.ccsk.proofs.Decide.{co?, on?}
 use Rattle.moves.specs.Choose.{forward-choice}
-use Rattle.moves.specs.Move.{step, stuck, own, overPrefix, joinedIf, hiddenIf} 
+use Rattle.moves.specs.Move.{step, stuck, own, overPrefix, joinedIf, hiddenIf}
 use Rattle.moves.specs.Move as m
 use Rattle.survey.specs.Seen.{Tells}
 

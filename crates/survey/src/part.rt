@@ -1,5 +1,13 @@
 // What is found of a part of the record, from what is found of the parts below it.
-use crate::seen::{over_choice, over_parallel, over_prefix, over_restriction, is_chosen, may_step, Ask, Move, Seen};
+use crate::seen::Ask;
+use crate::seen::Move;
+use crate::seen::Seen;
+use crate::seen::is_chosen;
+use crate::seen::may_step;
+use crate::seen::over_choice;
+use crate::seen::over_parallel;
+use crate::seen::over_prefix;
+use crate::seen::over_restriction;
 ghost use mathlib.Core.Path.{_≡_};
 ghost use mathlib.Core.Bool.{Bool, true, false, _||_};
 ghost use Prim.Native.Nat.{ℕ, _+_, _<_};
@@ -23,7 +31,14 @@ pub fn either(a: bool, b: bool) -> bool
 pub fn at_nil() -> Seen
     ensures { λ r. ⌜ ((ask : Ask) (i n : ℕ) → Found ask i n nil r) ⌝ }
 {
-    Seen { any: false, stands: false, count: 0, first: 0, second: 0, moved: Move::Still }
+    Seen {
+        any: false,
+        stands: false,
+        count: 0,
+        first: 0,
+        second: 0,
+        moved: Move::Still,
+    }
 }
 
 // Of the prefix at node n, whose bytes begin at `at`.
@@ -38,9 +53,23 @@ pub fn at_prefix(ask: Ask, at: u16, n: u16, action: u8, key: u16, below: Seen) -
     let any = either(done, below.any);
     let stands = either(ask.key == key, below.stands);
     if chosen {
-        return Seen { any: any, stands: stands, count: below.count + 1, first: at, second: below.first, moved: moved };
+        return Seen {
+            any: any,
+            stands: stands,
+            count: below.count + 1,
+            first: at,
+            second: below.first,
+            moved: moved,
+        };
     }
-    Seen { any: any, stands: stands, count: below.count, first: below.first, second: below.second, moved: moved }
+    Seen {
+        any: any,
+        stands: stands,
+        count: below.count,
+        first: below.first,
+        second: below.second,
+        moved: moved,
+    }
 }
 
 // Of a restriction on a name.
@@ -49,7 +78,14 @@ pub fn at_restriction(name: u8, below: Seen) -> Seen
 {
     let under = below.moved;
     let moved = over_restriction(name, under);
-    Seen { any: below.any, stands: below.stands, count: below.count, first: below.first, second: below.second, moved: moved }
+    Seen {
+        any: below.any,
+        stands: below.stands,
+        count: below.count,
+        first: below.first,
+        second: below.second,
+        moved: moved,
+    }
 }
 
 // The move of a parallel or a choice, from what is found of its sides.
@@ -74,10 +110,31 @@ pub fn at_two(parallel: bool, one: Seen, other: Seen) -> Seen
     let stands = either(one.stands, other.stands);
     let count = one.count + other.count;
     if one.count == 0 {
-        return Seen { any: any, stands: stands, count: count, first: other.first, second: other.second, moved: moved };
+        return Seen {
+            any: any,
+            stands: stands,
+            count: count,
+            first: other.first,
+            second: other.second,
+            moved: moved,
+        };
     }
     if one.count == 1 {
-        return Seen { any: any, stands: stands, count: count, first: one.first, second: other.first, moved: moved };
+        return Seen {
+            any: any,
+            stands: stands,
+            count: count,
+            first: one.first,
+            second: other.first,
+            moved: moved,
+        };
     }
-    Seen { any: any, stands: stands, count: count, first: one.first, second: one.second, moved: moved }
+    Seen {
+        any: any,
+        stands: stands,
+        count: count,
+        first: one.first,
+        second: one.second,
+        moved: moved,
+    }
 }

@@ -1,7 +1,20 @@
 // One pass over a record: it is read, and what is found of it is gathered from the leaves to the root.
-use crate::part::{at_nil, at_prefix, at_restriction, at_two};
-use crate::seen::{narrow, wide, Ask, Seen};
-use reader::{node_at, Head, DEPTH, NODES, NO_RECORD, OVER_LIMIT, PARALLEL, PREFIX};
+use crate::part::at_nil;
+use crate::part::at_prefix;
+use crate::part::at_restriction;
+use crate::part::at_two;
+use crate::seen::Ask;
+use crate::seen::Seen;
+use crate::seen::narrow;
+use crate::seen::wide;
+use reader::DEPTH;
+use reader::Head;
+use reader::NO_RECORD;
+use reader::NODES;
+use reader::OVER_LIMIT;
+use reader::PARALLEL;
+use reader::PREFIX;
+use reader::node_at;
 ghost use mathlib.Core.Path.{_≡_};
 ghost use Prim.Native.Nat.{_+_, _*_, _≤_, _<_};
 ghost use lib.ListN.{length, getD};
@@ -12,11 +25,7 @@ ghost use Rattle.survey.specs.Survey.{OverOne, Surveyed, Looked};
 // What a pass over the term at a place comes to: a refusal, or where the term ends, how many nodes may still come, and what was found.
 pub enum Outcome {
     Refused(u8),
-    Part {
-        next: u16,
-        left: u16,
-        seen: Seen,
-    },
+    Part { next: u16, left: u16, seen: Seen },
 }
 
 // What a pass over a whole record comes to.
@@ -60,19 +69,43 @@ fn survey(s: &[u8], at: usize, deep: usize, left: usize, ask: Ask) -> Outcome
     }
     match node_at(s, at) {
         Head::Bad => Outcome::Refused(NO_RECORD),
-        Head::Node { kind, children, next } => {
+        Head::Node {
+            kind,
+            children,
+            next,
+        } => {
             if children == 0 {
-                return Outcome::Part { next: narrow(next), left: narrow(left - 1), seen: at_nil() };
+                return Outcome::Part {
+                    next: narrow(next),
+                    left: narrow(left - 1),
+                    seen: at_nil(),
+                };
             }
             match survey(s, next, deep - 1, left - 1, ask) {
                 Outcome::Refused(c) => Outcome::Refused(c),
-                Outcome::Part { next: second, left: rest, seen: below } => {
+                Outcome::Part {
+                    next: second,
+                    left: rest,
+                    seen: below,
+                } => {
                     if children == 1 {
-                        return Outcome::Part { next: second, left: rest, seen: at_one(s, at, kind, NODES - left, ask, below) };
+                        return Outcome::Part {
+                            next: second,
+                            left: rest,
+                            seen: at_one(s, at, kind, NODES - left, ask, below),
+                        };
                     }
                     match survey(s, wide(second), deep - 1, wide(rest), ask) {
                         Outcome::Refused(c) => Outcome::Refused(c),
-                        Outcome::Part { next: end, left: last, seen: other } => Outcome::Part { next: end, left: last, seen: at_two(kind == PARALLEL, below, other) },
+                        Outcome::Part {
+                            next: end,
+                            left: last,
+                            seen: other,
+                        } => Outcome::Part {
+                            next: end,
+                            left: last,
+                            seen: at_two(kind == PARALLEL, below, other),
+                        },
                     }
                 }
             }
@@ -86,7 +119,11 @@ pub fn survey_all(s: &[u8], ask: Ask) -> Whole
 {
     match survey(s, 0, DEPTH, NODES, ask) {
         Outcome::Refused(c) => Whole::Refused(c),
-        Outcome::Part { next, left: _, seen } => {
+        Outcome::Part {
+            next,
+            left: _,
+            seen,
+        } => {
             if wide(next) < s.len() {
                 return Whole::Refused(NO_RECORD);
             }

@@ -19,6 +19,7 @@ use Rattle.causes.proofs.Renaming.{acyclic-columns}
 use Rattle.cycles.specs.Graph as graph
 use Rattle.pairs.specs.Rows.{table, rows-of, row, Indexed}
 use Rattle.pairs.specs.Answer.{Below, above, Climbed}
+use Rattle.verdict.specs.Sheet.{Noted}
 use Rattle.pairs.proofs.Tables.{Square, Keys, rows-none, each-placed}
 
 -- the two columns of a table that matter here
@@ -112,16 +113,12 @@ module _ (ks acs es ss us first second one two : List ℕ) (q : Square ks acs es
   acyclic-rows = Iff·trans (rw (table-keys 0 ks acs es ss us q, table-ups 0 ks acs es ss us q) at (acyclic-columns (table 0 ks acs es ss us)))
       (λ a m c. a m (chain-map (λ x y. links x y .1) c), λ a m c. a m (chain-map (λ x y. links x y .0) c))
 
--- the columns that the cycle test asks for
-pub columns : (n : ℕ) (ks us first second one two : List ℕ) → length first ≡ n → 0 < n → n ≤ 32767 → Keys ks → Below n us → Indexed ks first second → length us ≡ length ks → Climbed us first one → Climbed us second two → graph.Columns one two
-columns n ks us first second one two e s few p b x l f g = record { alike = let z = x .alike in let y = f .0 in let w = g .0 in omega arith; some = let y = f .0 in omega arith; few = let y = f .0 in omega arith; below-one = λ k h. let y = f .0 in rw (f .1 k (omega arith)) (climbed-below (getD first k 0) (placed k (omega arith) .0)); below-two = λ k h. let y = g .0 in let w = f .0 in let z = x .alike in rw (g .1 k (omega arith)) (climbed-below (getD second k 0) (placed k (omega arith) .1)); root-one = f .1 0 (omega arith) ∙ ap (above us) first-zero; root-two = g .1 0 (let z = x .alike in omega arith) ∙ ap (above us) (x .order 0 (omega arith) first-zero) }
+-- what the index notes is as the cycle test wants it
+pub noted : (n : ℕ) (ks us first second : List ℕ) → length first ≡ n → 0 < n → n ≤ 32767 → Keys ks → Below n us → Indexed ks first second → length us ≡ length ks → Noted us first second
+noted n ks us first second e s few p b x l = record { alike = x .alike; some = omega arith; few = omega arith; ups-below = rw e b; first-inside = λ k h. let r = placed k h in omega arith; second-inside = λ k h. let z = x .alike in let r = placed k (omega arith) in omega arith; first-root = first-zero; second-root = x .order 0 (omega arith) first-zero }
   where
     placed : (k : ℕ) → k < length first → (getD first k 0 ≤ length us) × (getD second k 0 ≤ length us)
     placed k h = let r = each-placed ks first second x .placed k h in omega arith
-
-    climbed-below : (r : ℕ) → r ≤ length us → above us r < length one
-    climbed-below zero h = let y = f .0 in omega arith
-    climbed-below (suc r) h = let y = f .0 in let z = b r (omega arith) in omega arith
 
     first-zero : getD first 0 0 ≡ 0
     first-zero = empty (getD first 0 0) (sym (rows-none 0 0 ks (λ j i e. let z = p j i in omega arith)) ∙ x .rows 0 (omega arith))
@@ -129,3 +126,11 @@ columns n ks us first second one two e s few p b x l f g = record { alike = let 
         empty : (a : ℕ) → [] ≡ row a ++ row (getD second 0 0) → a ≡ 0
         empty zero q = refl
         empty (suc a) q = let z : _≡_ {A = ℕ} 0 1 = cc in absurd (omega arith)
+
+-- the columns that the cycle test asks for
+pub columns : (us first second one two : List ℕ) → Noted us first second → Climbed us first one → Climbed us second two → graph.Columns one two
+columns us first second one two x f g = record { alike = let z = x .alike in let y = f .0 in let w = g .0 in omega arith; some = let y = f .0 in let z = x .some in omega arith; few = let y = f .0 in let z = x .few in omega arith; below-one = λ k h. let y = f .0 in rw (f .1 k (omega arith)) (climbed-below (getD first k 0) (x .first-inside k (omega arith))); below-two = λ k h. let y = g .0 in let w = f .0 in let z = x .alike in rw (g .1 k (omega arith)) (climbed-below (getD second k 0) (x .second-inside k (omega arith))); root-one = f .1 0 (x .some) ∙ ap (above us) (x .first-root); root-two = g .1 0 (let z = x .alike in let s = x .some in omega arith) ∙ ap (above us) (x .second-root) }
+  where
+    climbed-below : (r : ℕ) → r < length us + 1 → above us r < length one
+    climbed-below zero h = let y = f .0 in let s = x .some in omega arith
+    climbed-below (suc r) h = let y = f .0 in let z = x .ups-below r (omega arith) in omega arith

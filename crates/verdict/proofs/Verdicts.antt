@@ -18,7 +18,8 @@ use Rattle.pairs.specs.Cause.{Lowest, CauseBelow}
 use Rattle.pairs.specs.Answer.{Below, Climbed}
 use Rattle.pairs.proofs.Tables.{two-rows, three-rows, lowest-rows}
 use Rattle.verdict.specs.Laid.{Laid}
-use Rattle.verdict.proofs.Order.{acyclic-rows, columns}
+use Rattle.verdict.specs.Sheet.{Noted}
+use Rattle.verdict.proofs.Order.{acyclic-rows, noted}
 
 module _ (t : Term) (n : ℕ) (ks acs es ss us first second : List ℕ) (l : Laid t n ks acs es ss us) (e : length first ≡ n) (w : tests.waits t ≡ true) (c : tests.chosen t ≡ true) where
   abbrev rows : List Entry
@@ -66,13 +67,13 @@ module _ (t : Term) (n : ℕ) (ks acs es ss us first second : List ℕ) (l : Lai
             six : r ≡ 6 → Tested t r
             six q = rw q (sixth-fails w c twice (paired (omega arith)) (apart (omega arith)) (λ f. low .fails₆ q (each Enclosed enclosed-blind .0 f)))
 
+    -- what the cycle test asks for
+    pub asked : Noted us first second
+    asked = noted n ks us first second e (l .some) (l .few) (l .keys) (l .ups-below) x (l .square .ups)
+
     module _ (h : 7 ≤ r) (one two : List ℕ) (f : Climbed us first one) (i : Climbed us second two) where
       same : tests.Acyclic (all t) ↔ graph.Acyclic one two
       same = Iff·trans order (acyclic-rows ks acs es ss us first second one two (l .square) below x f i)
-
-      -- what the cycle test asks for
-      pub asked : graph.Columns one two
-      asked = columns n ks us first second one two e (l .some) (l .few) (l .keys) (l .ups-below) x (l .square .ups) f i
 
       -- there is a cycle, or none
       pub verdict-7 : ¬ graph.Acyclic one two → Tested t 7
