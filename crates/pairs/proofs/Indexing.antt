@@ -1,7 +1,7 @@
 -- Laws of the index: one row more is entered.
 use mathlib.Core.Path.{_≡_, refl, sym, ap, _∙_}
-use mathlib.Core.Logic.{_⊎_, inl, inr, ⊎-elim, _↔_, _≢_}
-use mathlib.Core.List.{List, [], _∷_, _++_, append-nil, append-assoc}
+use mathlib.Core.Logic.{_≢_}
+use mathlib.Core.List.{List, [], _∷_, _++_, append-nil}
 use mathlib.Core.Bool.{Bool, true, false, true≢false, false≢true}
 use Prim.Native.Nat.{ℕ, zero, suc, _+_, _≤_, _<_}
 use native.Mathlib.Decide.{ℕ-discrete}
@@ -13,7 +13,7 @@ use lib.ListN.{length, getD, set, take, drop, length-append, length-set, take-ap
 use lib.Seq.{take-suc, take-all, length-take-le, getD-set-same, getD-set-other}
 use Rattle.ccsk.specs.Term.{tick}
 use Rattle.pairs.specs.Rows.{rows-of, row, Indexed}
-use Rattle.pairs.specs.Answer.{Zero, Below, Entered, as-first, as-second, as-third, Index}
+use Rattle.pairs.specs.Answer.{Zero, Below, Entered, as-first, as-second, as-third}
 
 -- a row more at the end
 rows-append : (m i : ℕ) (x y : List ℕ) → rows-of m i (x ++ y) ≡ rows-of m i x ++ rows-of m (i + length x) y

@@ -1,7 +1,7 @@
 -- The lowest condition that fails: for one key by the ways through the code, and for all keys number by number.
-use mathlib.Core.Path.{_≡_, refl, sym, ap, _∙_}
+use mathlib.Core.Path.{_≡_, refl, sym, _∙_}
 use mathlib.Core.Logic.{_↔_, _≢_}
-use mathlib.Core.List.{List, [], _∷_, _++_}
+use mathlib.Core.List.{List}
 use mathlib.Core.Bool.{Bool, true, false, true≢false}
 use Prim.Native.Nat.{ℕ, zero, suc, _+_, _-_, _≤_, _<_}
 use native.Mathlib.Decide.{ℕ-discrete}
@@ -10,8 +10,7 @@ use lib.ListN.{length, getD}
 use Rattle.ccsk.specs.Term.{Co}
 use Rattle.causes.specs.Entry.{Entry}
 use Rattle.causes.specs.Tests.{Complements, Beside, Enclosed}
-use Rattle.pairs.specs.Rows.{row}
-use Rattle.pairs.specs.Cause.{Lowest, spots, of, CauseAt, EachBelow, CauseBelow}
+use Rattle.pairs.specs.Cause.{Lowest, spots, of, CauseAt, CauseBelow}
 
 pub low-4 : {A₄ A₅ A₆ : Type 0} → ¬ A₄ → Lowest A₄ A₅ A₆ 4
 low-4 f = record { least = omega arith; most = omega arith; holds₄ = λ h. absurd (omega arith); holds₅ = λ h. absurd (omega arith); holds₆ = λ h. absurd (omega arith); fails₄ = λ e. f; fails₅ = λ e. absurd (omega arith); fails₆ = λ e. absurd (omega arith) }

@@ -1,14 +1,14 @@
 -- The entries of a key are those in the rows that hold it, so what the index says of rows is what the conditions say of entries.
-use mathlib.Core.Path.{_≡_, refl, sym, ap, _∙_}
-use mathlib.Core.Logic.{_⊎_, inl, inr, _↔_, _≢_}
+use mathlib.Core.Path.{_≡_, refl, ap, _∙_}
+use mathlib.Core.Logic.{inl, inr, _↔_, _≢_}
 use mathlib.Core.List.{List, [], _∷_, _++_}
 use mathlib.Core.Bool.{Bool, true, false}
 use Prim.Native.Nat.{ℕ, zero, suc, _+_, _≤_, _<_}
-use native.Mathlib.Decide.{ℕ-discrete, decLt}
+use native.Mathlib.Decide.{decLt}
 use native.Mathlib.Omega.{arith}
-use borrow.Author.Tests.{eq-eqb, ne-eqb}
+use borrow.Author.Tests.{ne-eqb}
 use lib.Dec.{eqb}
-use lib.ListN.{length, getD, length-append}
+use lib.ListN.{length, getD}
 use Rattle.ccsk.specs.Numbers.{In}
 use Rattle.ccsk.specs.Term.{tick}
 use Rattle.causes.specs.Entry.{Entry, keep, only}

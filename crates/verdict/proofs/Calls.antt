@@ -3,9 +3,9 @@ use mathlib.Core.Path.{_≡_, refl, sym, subst, _∙_}
 use mathlib.Core.Logic.{inl, inr}
 use mathlib.Core.List.{List}
 use mathlib.Core.Bool.{Bool, true, false}
-use Prim.Native.Nat.{ℕ, _<_}
+use Prim.Native.Nat.{ℕ}
 use lib.ListN.{length}
-use Rattle.pairs.specs.Rows.{rows-of, Indexed}
+use Rattle.pairs.specs.Rows.{Indexed}
 use Rattle.pairs.specs.Cause.{EachPlaced, CauseBelow}
 use Rattle.pairs.specs.Answer.{Index}
 use Rattle.pairs.proofs.Tables.{each-placed}

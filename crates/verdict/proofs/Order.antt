@@ -1,17 +1,15 @@
 -- The cycle test on what stands right above each key is the test on entries.
 use mathlib.Core.Path.{_≡_, refl, sym, ap, _∙_}
-use mathlib.Core.Logic.{_⊎_, inl, inr, ⊎-elim, _↔_, _≢_, Iff·trans}
+use mathlib.Core.Logic.{_⊎_, inl, inr, ⊎-elim, _↔_, Iff·trans}
 use mathlib.Core.List.{List, [], _∷_, _++_}
 use mathlib.Core.Bool.{Bool, true, false}
 use Prim.Native.Nat.{ℕ, zero, suc, _+_, _≤_, _<_}
-use native.Mathlib.Decide.{ℕ-discrete, decLt}
 use native.Mathlib.Omega.{arith}
-use borrow.Author.Tests.{eq-eqb, ne-eqb}
 use lib.Dec.{eqb}
 use lib.ListN.{length, getD}
 use Rattle.ccsk.specs.Numbers.{In}
 use Rattle.ccsk.specs.Term.{tick}
-use Rattle.causes.specs.Links.{key-column, up-column, Linked, NoCycle, right-above}
+use Rattle.causes.specs.Links.{key-column, up-column, Linked, right-above}
 use Rattle.causes.specs.Tests as tests
 use Rattle.causes.proofs.Chains.{chain-map}
 use Rattle.causes.proofs.Taking.{linked-above, linked-low}

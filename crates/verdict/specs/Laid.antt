@@ -2,7 +2,6 @@
 use mathlib.Core.Path.{_≡_}
 use mathlib.Core.List.{List}
 use Prim.Native.Nat.{ℕ, _≤_, _<_}
-use lib.ListN.{length, getD}
 use Rattle.ccsk.specs.Term.{Term}
 use Rattle.causes.specs.Entry.{all}
 use Rattle.causes.specs.Links.{key-column, renamed}
