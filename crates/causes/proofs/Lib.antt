@@ -8,4 +8,5 @@ pub mod Chains
 pub mod Verdict
 pub mod Taking
 pub mod Renaming
+pub mod Naming
 pub mod Examples
