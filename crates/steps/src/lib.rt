@@ -5,10 +5,7 @@ use survey::pass::Whole;
 use survey::pass::survey_all;
 use survey::seen::Ask;
 use survey::seen::Move;
-<<<<<<< HEAD
 use survey::seen::NOT_DONE;
-=======
->>>>>>> verdict
 use survey::seen::Seen;
 use survey::seen::wide;
 ghost use mathlib.Core.Path.{_≡_};

@@ -10,10 +10,6 @@ use lib.Dec.{eqb}
 use Rattle.ccsk.specs.Term.{Co, On}
 use Rattle.moves.specs.Choose.{forward-choice}
 use Rattle.moves.specs.Move.{step, stuck, own, overPrefix, joinedIf, hiddenIf}
-<<<<<<< HEAD
-=======
-use Rattle.moves.specs.Move as m
->>>>>>> verdict
 use Rattle.survey.specs.Seen.{Tells}
 
 -- which node a forward step asks for

@@ -1,13 +1,7 @@
-<<<<<<< HEAD
 // What is found of a node, from what is found of its children.
 use crate::seen::Ask;
 use crate::seen::Move;
 use crate::seen::NOT_DONE;
-=======
-// What is found of a part of the record, from what is found of the parts below it.
-use crate::seen::Ask;
-use crate::seen::Move;
->>>>>>> verdict
 use crate::seen::Seen;
 use crate::seen::is_chosen;
 use crate::seen::may_step;

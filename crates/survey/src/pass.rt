@@ -26,11 +26,7 @@ ghost use Rattle.survey.specs.Survey.{Surveyed, Looked};
 // What a pass over the term at a place comes to: a refusal, or where the term ends, how many nodes may still come, and what was found.
 pub enum Outcome {
     Refused(u8),
-<<<<<<< HEAD
     Part(u16, u16, Seen),
-=======
-    Part { next: u16, left: u16, seen: Seen },
->>>>>>> verdict
 }
 
 // What a pass over a whole record comes to: a refusal, or what was found.
@@ -80,7 +76,6 @@ fn survey(s: &[u8], at: usize, deep: usize, left: usize, ask: Ask) -> Outcome
             next,
         } => {
             if children == 0 {
-<<<<<<< HEAD
                 return Outcome::Part(narrow(next), narrow(left - 1), at_nil());
             }
             match survey(s, next, deep - 1, left - 1, ask) {
@@ -95,39 +90,6 @@ fn survey(s: &[u8], at: usize, deep: usize, left: usize, ask: Ask) -> Outcome
                         Outcome::Part(end, last, other) => {
                             Outcome::Part(end, last, at_two(kind == PARALLEL, below, other))
                         }
-=======
-                return Outcome::Part {
-                    next: narrow(next),
-                    left: narrow(left - 1),
-                    seen: at_nil(),
-                };
-            }
-            match survey(s, next, deep - 1, left - 1, ask) {
-                Outcome::Refused(c) => Outcome::Refused(c),
-                Outcome::Part {
-                    next: second,
-                    left: rest,
-                    seen: below,
-                } => {
-                    if children == 1 {
-                        return Outcome::Part {
-                            next: second,
-                            left: rest,
-                            seen: at_one(s, at, kind, NODES - left, ask, below),
-                        };
-                    }
-                    match survey(s, wide(second), deep - 1, wide(rest), ask) {
-                        Outcome::Refused(c) => Outcome::Refused(c),
-                        Outcome::Part {
-                            next: end,
-                            left: last,
-                            seen: other,
-                        } => Outcome::Part {
-                            next: end,
-                            left: last,
-                            seen: at_two(kind == PARALLEL, below, other),
-                        },
->>>>>>> verdict
                     }
                 }
             }
@@ -141,15 +103,7 @@ pub fn survey_all(s: &[u8], ask: Ask) -> Whole
 {
     match survey(s, 0, DEPTH, NODES, ask) {
         Outcome::Refused(c) => Whole::Refused(c),
-<<<<<<< HEAD
         Outcome::Part(next, _, seen) => {
-=======
-        Outcome::Part {
-            next,
-            left: _,
-            seen,
-        } => {
->>>>>>> verdict
             if wide(next) < s.len() {
                 return Whole::Refused(NO_RECORD);
             }
