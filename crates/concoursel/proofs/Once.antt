@@ -12,22 +12,22 @@ use Rattle.concoursel.proofs.Packs.{packed-step-once, packed-number-onc
 
 module _ (s : List ℕ) where
   pub forward-entry-once : {p q m r r′ : ℕ} {b b′ : List ℕ} → PackedStep (ForwardStep s p q m) r b → PackedStep (ForwardStep s p q m) r′ b′ → (r ≡ r′) × (b ≡ b′)
-  forward-entry-once = packed-step-once forward-once
+  forward-entry-once = packed-step-once (λ c c′ n n′ b b′ f g. forward-once f g)
 
   pub undo-entry-once : {m r r′ : ℕ} {b b′ : List ℕ} → PackedStep (UndoStep s m) r b → PackedStep (UndoStep s m) r′ b′ → (r ≡ r′) × (b ≡ b′)
-  undo-entry-once = packed-step-once undo-step-once
+  undo-entry-once = packed-step-once (λ c c′ n n′ b b′ f g. undo-step-once f g)
 
   pub read-entry-once : {r r′ : ℕ} → PackedNumber (ReadRecord s) r → PackedNumber (ReadRecord s) r′ → r ≡ r′
-  read-entry-once = packed-number-once read-once
+  read-entry-once = packed-number-once (λ c c′ n n′ f g. read-once f g)
 
   pub count-entry-once : {r r′ : ℕ} → PackedNumber (KeyCount s) r → PackedNumber (KeyCount s) r′ → r ≡ r′
-  count-entry-once = packed-number-once count-once
+  count-entry-once = packed-number-once (λ c c′ n n′ f g. count-once f g)
 
   pub least-free-entry-once : {r r′ : ℕ} → PackedNumber (FreeKey s) r → PackedNumber (FreeKey s) r′ → r ≡ r′
-  least-free-entry-once = packed-number-once free-once
+  least-free-entry-once = packed-number-once (λ c c′ n n′ f g. free-once f g)
 
   pub blank-entry-once : {r r′ : ℕ} {b b′ : List ℕ} → PackedLent (BlankForm s) r b → PackedLent (BlankForm s) r′ b′ → (r ≡ r′) × (b ≡ b′)
-  blank-entry-once = packed-lent-once blank-once
+  blank-entry-once = packed-lent-once (λ c c′ n n′ b b′ f g. blank-once f g)
 
   pub waiting-entry-once : {m r r′ : ℕ} {row b b′ : List ℕ} → PackedLent (WaitingList s m row) r b → PackedLent (WaitingList s m row) r′ b′ → (r ≡ r′) × (b ≡ b′)
-  waiting-entry-once = packed-lent-once waiting-once
+  waiting-entry-once = packed-lent-once (λ c c′ n n′ b b′ f g. waiting-once f g)

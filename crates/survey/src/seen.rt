@@ -5,7 +5,7 @@ ghost use Rattle.moves.specs.Move.{overPrefix, overChoice, overParallel, overRe
 ghost use Rattle.ccsk.specs.Term.{Co, On};
 ghost use Rattle.survey.specs.Seen.{moveOf, choiceOf, mayOf, Tells};
 
-// Labels (01, The record): tau, the greatest name, and what a co-name adds to its name; as an action that sum alone is none.
+// Labels (01, The record): tau, the greatest name, and what a co-name adds to its name (128 itself is no action).
 const TAU: u8 = 0;
 
 const LAST_NAME: u8 = 127;

@@ -1,0 +1,2 @@
+-- What the walker's functions above the cursor promise (Shown).
+pub mod Shown
