@@ -23,14 +23,14 @@ pub const PARALLEL: usize = 3;
 
 pub const RESTRICTION: usize = 4;
 
-const BODY: [u8; 5] = [0, 3, 0, 0, 1];
+pub const BODY: [u8; 5] = [0, 3, 0, 0, 1];
 
-const CHILDREN: [u8; 5] = [0, 1, 2, 2, 1];
+pub const CHILDREN: [u8; 5] = [0, 1, 2, 2, 1];
 
 // The byte that is no action, and the greatest name.
-const NO_ACTION: u8 = 128;
+pub const NO_ACTION: u8 = 128;
 
-const LAST_NAME: u8 = 127;
+pub const LAST_NAME: u8 = 127;
 
 // Refusals: the bytes are no record; over a limit.
 pub const NO_RECORD: u8 = 1;

@@ -1,0 +1,88 @@
+-- A whole record: its reading gives the term that stands at its start, and the pass over that term fills the rows.
+use mathlib.Core.Path.{_≡_, refl, sym, subst, ap, _∙_}
+use mathlib.Core.Logic.{_⊎_, inl, inr, ⊎-elim}
+use mathlib.Core.List.{List, [], _∷_, _++_}
+use mathlib.Core.Bool.{true}
+use Prim.Native.Nat.{ℕ, zero, suc, _+_, _<_, _≤_}
+use native.Mathlib.Omega.{arith}
+use lib.ListN.{length, getD, drop, length-replicate, List·getD-append}
+use lib.Seq.{sets, sets-eq}
+use Rattle.ccsk.specs.Term.{Term, nil, pre, cho, par, res, size}
+use Rattle.format.specs.Limits.{node-limit}
+use Rattle.format.specs.Read.{Reads, Refuses}
+use Rattle.format.specs.Encode.{encode, Fits, Bytes}
+use Rattle.format.proofs.Unique.{encode-decode}
+use Rattle.format.proofs.Refusals.{decode-refusals}
+use Rattle.operations.specs.Ask.{ReadRecord, unreadable, done}
+use Rattle.reader.specs.Count.{refusal, nodes}
+use Rattle.reader.specs.declared.Count.{Count}
+use Rattle.reader.specs.declared.Count.the-variants.{Refused, Nodes}
+use Rattle.paths.specs.Rows.{Holds, no-scopes, actions, scopes, sides, ends, Indexed}
+use Rattle.paths.proofs.Lines.{length-actions, length-scopes, length-sides, length-ends}
+use Rattle.index.specs.declared.Span.{Span}
+use Rattle.index.specs.Chart.{Room, Stands, SomeTerm, Charts}
+use Rattle.index.specs.Whole.{Rows}
+use Rattle.index.proofs.Charts.{room-charted}
+
+pub bytes-of : (s : List ℕ) → ((i : ℕ) → getD s i 0 < 256) → Bytes s
+bytes-of [] f = tt
+bytes-of (b ∷ s) f = (f 0, bytes-of s (λ i. f (suc i)))
+
+-- the two ways of a reading
+ways : {s : List ℕ} {c n : ℕ} → ReadRecord s c n → (Refuses s c × (n ≡ 0)) ⊎ ((t : Term) × Reads s t × (c ≡ 0) × (n ≡ size t))
+ways (unreadable h) = inl (h, refl)
+ways (done {t} h) = inr (t, h, refl, refl)
+
+no-nodes : (t : Term) → _≡_ {A = ℕ} 0 (size t) → ⊥
+unfolding size
+no-nodes nil e = omega arith
+no-nodes (pre a k t) e = omega arith
+no-nodes (cho t u) e = omega arith
+no-nodes (par t u) e = omega arith
+no-nodes (res a t) e = omega arith
+
+-- what is written from the start stands there
+written : (l x : List ℕ) (k : ℕ) → length x ≡ k → k ≤ node-limit → length l ≡ node-limit → Holds (sets l 0 x) 0 x
+written l x k e h g = record {
+  at = λ i j. let z : 0 + i ≡ i = omega arith in rw (z, sets-eq x l 0 (omega arith)) (List·getD-append x (drop (0 + length x) l) 0 i j);
+}
+
+module _ (s : List ℕ) (r : Count) (R : ReadRecord s (refusal r) (nodes r)) where
+  pub was-refused : (c : ℕ) → r ≡ Refused c → Refuses s c
+  was-refused c e = ⊎-elim (λ w. w .0) (λ w. absurd (no-nodes (w .0) (w .3))) (ways (subst (λ (x : Count). ReadRecord s (refusal x) (nodes x)) e R))
+
+  -- the term that was read
+  pub was-read : Bytes s → (n : ℕ) → r ≡ Nodes n → (t : Term) × Reads s t × Fits t × (n ≡ size t) × Stands s 0 0 t
+  was-read B n e = ⊎-elim (λ w. absurd (⊎-elim (λ z. omega arith) (λ z. omega arith) (decode-refusals s 0 (w .0))))
+      (λ w. let d = encode-decode s (w .0) B (w .1) in (w .0, w .1, d .1, w .3, stands (w .0) (d .0) (d .1)))
+      (ways (subst (λ (x : Count). ReadRecord s (refusal x) (nodes x)) e R))
+    where
+      stands : (t : Term) → encode t ≡ s → Fits t → Stands s 0 0 t
+      stands t q f = record {
+        bytes = record { at = λ i h. let z : 0 + i ≡ i = omega arith in rw (z, q) };
+        within = omega (arith, ap length q);
+        nodes = omega (arith, f .nodes);
+        range = f .range;
+      }
+
+-- the rows that the pass leaves are those of the term
+pub rows-of : {s A C S E table′ A′ C′ S′ E′ : List ℕ} {r : Span} (table : List ℕ) (t : Term) (n : ℕ) → Fits t → n ≡ size t → Stands s 0 0 t → table ≡ no-scopes → Room table A C S E
+    → Charts s 0 0 true 0 table A C S E table′ A′ C′ S′ E′ r → Rows t n A′ C′ S′ E′
+rows-of {s} {A} {C} {S} {E} table t n f c T z room charts = let F = charts t T in let room′ = room-charted F room in record {
+  fits = f;
+  count = c;
+  rows = record {
+    action-row = rw (F .action-row) (written A (actions true t) (size t) (length-actions true t) (f .nodes) (room .action-room));
+    scope-row = rw (F .scope-row, z) (written C (scopes no-scopes 0 t) (size t) (length-scopes no-scopes 0 t) (f .nodes) (room .scope-room));
+    side-row = rw (F .side-row) (written S (sides 0 0 t) (size t) (length-sides 0 0 t) (f .nodes) (room .side-room));
+    end-row = rw (F .end-row) (written E (ends 0 t) (size t) (length-ends 0 t) (f .nodes) (room .end-room));
+  };
+  action-room = room′ .action-room;
+  scope-room = room′ .scope-room;
+  side-room = room′ .side-room;
+  end-room = room′ .end-room;
+}
+
+-- at the start no name has a scope, and every row has room
+pub all-room : {A R S E : List ℕ} (table : List ℕ) → table ≡ no-scopes → (length A ≡ node-limit) × (length R ≡ node-limit) × (length S ≡ node-limit) × (length E ≡ node-limit) → Room table A R S E
+all-room table z h = record { names = ap length z ∙ length-replicate {A = ℕ} 128 0; action-room = h .0; scope-room = h .1; side-room = h .2; end-room = h .3 }

@@ -1,0 +1,245 @@
+// The rows of a record, filled in one pass: what a search for steps has to know of each node.
+ghost use mathlib.Core.Path.{_≡_};
+ghost use mathlib.Core.Bool.{cond, not, _||_};
+ghost use Prim.Native.Nat.{ℕ, _+_, _-_, _≤_, _<_};
+ghost use lib.Dec.{eqb};
+ghost use lib.ListN.{length, set, replicate};
+ghost use lib.Seq.{sets};
+ghost use Rattle.format.specs.Limits.{node-limit};
+ghost use Rattle.format.specs.Read.{keyOf};
+ghost use Rattle.paths.specs.Rows.{no-action, channel, and, shown};
+ghost use Rattle.index.specs.Chart.{Noted, Room, SomeTerm, Charts};
+ghost use Rattle.index.specs.Whole.{Indexes};
+use reader::CHOICE;
+use reader::Count;
+use reader::NO_ACTION;
+use reader::NODES;
+use reader::PREFIX;
+use reader::read;
+use reader::wide;
+
+// The reader's tables by kind, as numbers to count with.
+const BODY: [usize; 5] = [
+    reader::BODY[0] as usize,
+    reader::BODY[1] as usize,
+    reader::BODY[2] as usize,
+    reader::BODY[3] as usize,
+    reader::BODY[4] as usize,
+];
+
+const CHILDREN: [usize; 5] = [
+    reader::CHILDREN[0] as usize,
+    reader::CHILDREN[1] as usize,
+    reader::CHILDREN[2] as usize,
+    reader::CHILDREN[3] as usize,
+    reader::CHILDREN[4] as usize,
+];
+
+// How many names there are, with 0, which is none.
+pub const NAMES: usize = 128;
+
+// Where a term ends: the place after its bytes, the node after its last, and whether some prefix of it holds a key.
+pub struct Span {
+    pub next: usize,
+    pub end: usize,
+    pub holds: bool,
+}
+
+fn ended(next: usize, end: usize, holds: bool) -> Span
+    ensures { λ r. ⌜ (r .next ≡ next) × (r .end ≡ end) × (r .holds ≡ holds) ⌝ }
+{
+    Span {
+        next: next,
+        end: end,
+        holds: holds,
+    }
+}
+
+// The name that a label is, or whose co-name it is.
+fn channel_of(a: u8) -> usize
+    ensures { λ r. ⌜ (r ≡ channel a) × (r < 128) ⌝ }
+{
+    if a < 128 {
+        return a as usize;
+    }
+    (a - 128) as usize
+}
+
+// Whether a key is not 0.
+fn is_done(high: u8, low: u8) -> bool
+    ensures { λ r. ⌜ r ≡ not (eqb (keyOf high low) 0) ⌝ }
+{
+    high as u16 * 256 + low as u16 != 0
+}
+
+fn both(x: bool, y: bool) -> bool
+    ensures { λ r. ⌜ r ≡ and x y ⌝ }
+{
+    if x {
+        return y;
+    }
+    false
+}
+
+fn but_not(x: bool, y: bool) -> bool
+    ensures { λ r. ⌜ r ≡ and x (not y) ⌝ }
+{
+    if x {
+        if y {
+            return false;
+        }
+        return true;
+    }
+    false
+}
+
+fn either(x: bool, y: bool) -> bool
+    ensures { λ r. ⌜ r ≡ (x || y) ⌝ }
+{
+    if x {
+        return true;
+    }
+    y
+}
+
+// The action, where it may be seen.
+fn seen(may: bool, a: u8) -> u8
+    ensures { λ r. ⌜ r ≡ shown may a ⌝ }
+{
+    if may {
+        return a;
+    }
+    NO_ACTION
+}
+
+fn pick(test: bool, x: usize, y: usize) -> usize
+    ensures { λ r. ⌜ r ≡ cond test x y ⌝ }
+{
+    if test {
+        return x;
+    }
+    y
+}
+
+// No action for the nodes from `from` to before `to`.
+fn silence(actions: &mut [u8; NODES], from: usize, to: usize)
+    requires { ⌜ (length (now actions) ≡ node-limit) × (from ≤ to) × (to ≤ node-limit) ⌝ }
+    ensures { λ _. ⌜ now (actions .exit) ≡ sets (now (actions .entry)) from (replicate (to - from) no-action) ⌝ }
+    ensures { λ _. ⌜ length (now (actions .exit)) ≡ node-limit ⌝ }
+{
+    let mut i = from;
+    while i < to {
+        actions[i] = NO_ACTION;
+        i += 1;
+    }
+}
+
+// Writes the line of node n into the rows.
+fn note(
+    n: usize,
+    action: u8,
+    scope: u16,
+    side: usize,
+    end: usize,
+    actions: &mut [u8; NODES],
+    scopes: &mut [u16; NODES],
+    sides: &mut [u16; NODES],
+    ends: &mut [u16; NODES],
+)
+    requires { ⌜ (n < node-limit) × (side ≤ node-limit) × (end ≤ node-limit) ⌝ }
+    requires { ⌜ (length (now actions) ≡ node-limit) × (length (now scopes) ≡ node-limit) × (length (now sides) ≡ node-limit) × (length (now ends) ≡ node-limit) ⌝ }
+    ensures { λ _. ⌜ Noted n action scope side end (now (actions .entry)) (now (scopes .entry)) (now (sides .entry)) (now (ends .entry)) (now (actions .exit)) (now (scopes .exit)) (now (sides .exit)) (now (ends .exit)) ⌝ }
+{
+    actions[n] = action;
+    scopes[n] = scope;
+    sides[n] = side as u16;
+    ends[n] = end as u16;
+}
+
+// Fills the rows for the term at `at`, whose root is node n. `live` says whether what stands above lets it step, `side` is the nearest first
+// side of a choice that it stands in, and the table has the scope of each name.
+fn chart(
+    s: &[u8],
+    at: usize,
+    n: usize,
+    live: bool,
+    side: usize,
+    table: &mut [u16; NAMES],
+    actions: &mut [u8; NODES],
+    scopes: &mut [u16; NODES],
+    sides: &mut [u16; NODES],
+    ends: &mut [u16; NODES],
+) -> Span
+    requires { ⌜ SomeTerm (now s) at n ⌝ }
+    requires { ⌜ (side ≤ n) × Room (now table) (now actions) (now scopes) (now sides) (now ends) ⌝ }
+    ensures { λ r. ⌜ Charts (now (s .entry)) at n live side (now (table .entry)) (now (actions .entry)) (now (scopes .entry)) (now (sides .entry)) (now (ends .entry)) (now (table .exit)) (now (actions .exit)) (now (scopes .exit)) (now (sides .exit)) (now (ends .exit)) r ⌝ }
+{
+    let kind = wide(s[at]);
+    let next = at + 1 + BODY[kind];
+    let i = n + 1;
+    if CHILDREN[kind] == 0 {
+        note(n, NO_ACTION, 0, side, i, actions, scopes, sides, ends);
+        return ended(next, i, false);
+    }
+    if kind == PREFIX {
+        let a = s[at + 1];
+        let done = is_done(s[at + 2], s[at + 3]);
+        let on = both(live, done);
+        let sub = chart(s, next, i, on, side, table, actions, scopes, sides, ends);
+        let own = seen(but_not(but_not(live, done), sub.holds), a);
+        let scope = table[channel_of(a)];
+        note(n, own, scope, side, sub.end, actions, scopes, sides, ends);
+        return ended(sub.next, sub.end, either(done, sub.holds));
+    }
+    if CHILDREN[kind] == 1 {
+        let a = wide(s[at + 1]);
+        let outer = table[a];
+        table[a] = i as u16;
+        let sub = chart(s, next, i, live, side, table, actions, scopes, sides, ends);
+        table[a] = outer;
+        note(n, NO_ACTION, 0, side, sub.end, actions, scopes, sides, ends);
+        return sub;
+    }
+    let choice = kind == CHOICE;
+    let inner = pick(choice, i, side);
+    let first = chart(s, next, i, live, inner, table, actions, scopes, sides, ends);
+    let x = first.next;
+    let m = first.end;
+    let on = but_not(live, both(choice, first.holds));
+    let sub = chart(s, x, m, on, side, table, actions, scopes, sides, ends);
+    silence(actions, i, pick(both(choice, sub.holds), m, i));
+    note(n, NO_ACTION, 0, side, sub.end, actions, scopes, sides, ends);
+    ended(sub.next, sub.end, either(first.holds, sub.holds))
+}
+
+// Reads the record and fills its rows: the refusal, or the number of nodes. The rows are the caller's; each has room for all nodes.
+pub fn index(
+    bytes: &[u8],
+    actions: &mut [u8; NODES],
+    scopes: &mut [u16; NODES],
+    sides: &mut [u16; NODES],
+    ends: &mut [u16; NODES],
+) -> Count
+    requires { ⌜ (length (now actions) ≡ node-limit) × (length (now scopes) ≡ node-limit) × (length (now sides) ≡ node-limit) × (length (now ends) ≡ node-limit) ⌝ }
+    ensures { λ r. ⌜ Indexes (now (bytes .entry)) (now (actions .exit)) (now (scopes .exit)) (now (sides .exit)) (now (ends .exit)) r ⌝ }
+{
+    match read(bytes) {
+        Count::Refused(c) => Count::Refused(c),
+        Count::Nodes(n) => {
+            let mut table = [0u16; NAMES];
+            chart(
+                bytes,
+                0,
+                0,
+                true,
+                0,
+                &mut table,
+                actions,
+                scopes,
+                sides,
+                ends,
+            );
+            Count::Nodes(n)
+        }
+    }
+}

@@ -1,0 +1,7 @@
+-- Why the rows of a term tell its steps.
+pub mod Channels
+pub mod Lines
+pub mod Climb
+pub mod Derived
+pub mod Drawn
+pub mod Steps

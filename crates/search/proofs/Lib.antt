@@ -1,0 +1,4 @@
+-- Why the search finds the first step.
+pub mod Parts
+pub mod Reached
+pub mod Answers

@@ -1,0 +1,28 @@
+-- `is_clear` meets its contract: only the second side of the side's own choice can hold q.
+use borrow.Author.Needs.{needs}
+use mathlib.Core.Path.{subst}
+use lib.Dec.{ltb}
+use Prim.Native.Nat.{ℕ}
+use Rattle.search.specs.Scan.{Clear}
+use Rattle.search.proofs.Parts.{clear-none, clear-side}
+use Rattle.search.proofs.is_clear.Statement.{statement}
+use Rattle.search.proofs.is_clear.Tie as tie
+
+returns : tie.Need-returns
+returns c = clear-none _ _ _ (c .if1 .taken)
+
+mul-number : tie.Need-mul-number
+mul-number c = search needs
+
+element-copy-out-number : tie.Need-element-copy-out-number
+element-copy-out-number c = search needs
+
+number-requires : tie.Need-number-requires
+number-requires c κs = search needs
+
+returns-2 : tie.Need-returns-2
+returns-2 c = rw (c .number .ensures) (clear-side (c .before .before .before .args .side) (c .before .before .before .args .q) (c .before .before .before .args .ends .now) (c .before .before .if1 .left) (c .before .before .before .pre .2))
+
+pub is-clear-spec : {M : Type 1} → statement M
+is-clear-spec =
+    tie.close (tie.spec returns mul-number element-copy-out-number number-requires returns-2)

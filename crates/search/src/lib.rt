@@ -1,0 +1,170 @@
+// The first forward step at or after two places (01, Operations): a search over the rows of a record.
+ghost use mathlib.Core.Path.{_≡_};
+ghost use mathlib.Core.Logic.{_↔_};
+ghost use mathlib.Core.Bool.{true};
+ghost use Prim.Native.Nat.{ℕ, _+_, _≤_, _<_};
+ghost use lib.ListN.{length};
+ghost use Rattle.format.specs.Limits.{node-limit};
+ghost use Rattle.operations.specs.Ask.{FirstStep};
+ghost use Rattle.index.specs.Whole.{SomeRows};
+ghost use Rattle.search.specs.First.{refusal, found, first-place, second-place, label, Next};
+ghost use Rattle.search.specs.Scan.{Wants, Agrees, LowSides, Climbed, Reaches, Clear};
+use index::index;
+use reader::Count;
+use reader::NO_ACTION;
+use reader::NODES;
+use reader::Node;
+
+// The answer: a refusal, none, or the places and the label of the first step.
+pub enum First {
+    Refused(u8),
+    None,
+    Found { p: u16, q: u16, label: u8 },
+}
+
+// A node number as an index.
+fn number(x: u16) -> usize
+    ensures { λ r. ⌜ r ≡ x ⌝ }
+{
+    x as usize
+}
+
+// The complement of an action; 0 where there is none.
+fn complement(a: u8) -> u8
+    ensures { λ r. ⌜ Wants a r ⌝ }
+{
+    if a == 0 {
+        return 0;
+    }
+    if a < 128 {
+        return a + 128;
+    }
+    a - 128
+}
+
+// Whether an action is the wanted one, under the same restriction.
+fn agree(want: u8, action: u8, scope: u16, other: u16) -> bool
+    ensures { λ r. ⌜ Agrees want action scope other r ⌝ }
+{
+    if want == 0 {
+        return false;
+    }
+    if want == action {
+        return scope == other;
+    }
+    false
+}
+
+fn later(x: usize, y: usize) -> usize
+    ensures { λ r. ⌜ (x ≤ r) × (y ≤ r) × ((z : ℕ) → x ≤ z → y ≤ z → r ≤ z) ⌝ }
+{
+    if x < y {
+        return y;
+    }
+    x
+}
+
+// From the first side of a choice, or 0, up to the first side of the nearest choice that does not end before node q.
+fn climb(side: usize, q: usize, nodes: usize, sides: &[u16; NODES], ends: &[u16; NODES]) -> usize
+    requires { ⌜ (side ≤ nodes) × (nodes ≤ node-limit) × LowSides nodes (now sides) × (length (now sides) ≡ node-limit) × (length (now ends) ≡ node-limit) ⌝ }
+    ensures { λ r. ⌜ Climbed side q (now (sides .entry)) (now (ends .entry)) r ⌝ }
+{
+    let mut c = side;
+    while c != 0 {
+        let choice = c - 1;
+        if q < number(ends[choice]) {
+            return c;
+        }
+        c = number(sides[choice]);
+    }
+    0
+}
+
+// Whether what begins at a side, or at none, is not barred from node q. The side's choice does not end before q.
+fn is_clear(side: usize, q: usize, ends: &[u16; NODES]) -> bool
+    requires { ⌜ (side < node-limit) × (length (now ends) ≡ node-limit) × Reaches side q (now ends) ⌝ }
+    ensures { λ r. ⌜ Clear side q (now (ends .entry)) r ⌝ }
+{
+    if side == 0 {
+        return true;
+    }
+    q < number(ends[side])
+}
+
+// Whether the search is before the pairs of a place, and no restriction stands above that place.
+fn is_alone(from: usize, scope: u16) -> bool
+    ensures { λ r. ⌜ r ≡ true ↔ ((from ≡ 0) × (scope ≡ 0)) ⌝ }
+{
+    if from == 0 {
+        return scope == 0;
+    }
+    false
+}
+
+// The first step at or after (p, q), by the rows that `index` has filled for a record of so many nodes.
+pub fn next_step(
+    actions: &[u8; NODES],
+    scopes: &[u16; NODES],
+    sides: &[u16; NODES],
+    ends: &[u16; NODES],
+    nodes: usize,
+    p: Node,
+    q: Node,
+) -> First
+    requires { ⌜ SomeRows nodes (now actions) (now scopes) (now sides) (now ends) ⌝ }
+    ensures { λ r. ⌜ Next nodes (now (actions .entry)) (now (scopes .entry)) (now (sides .entry)) (now (ends .entry)) (p .0) (q .0) r ⌝ }
+{
+    let mut i = number(p.0);
+    let mut from = number(q.0);
+    let mut j: usize = 0;
+    let mut label: u8 = 0;
+    'search: while i < nodes {
+        let action = actions[i];
+        if action == NO_ACTION {
+            from = 0;
+            i += 1;
+            continue 'search;
+        }
+        if is_alone(from, scopes[i]) {
+            j = 0;
+            label = action;
+            break 'search;
+        }
+        let want = complement(action);
+        let mut side = number(sides[i]);
+        j = later(from, i + 1);
+        while j < nodes {
+            if agree(want, actions[j], scopes[i], scopes[j]) {
+                side = climb(side, j, nodes, sides, ends);
+                if is_clear(side, j, ends) {
+                    break 'search;
+                }
+            }
+            j += 1;
+        }
+        from = 0;
+        i += 1;
+    }
+    if i < nodes {
+        return First::Found {
+            p: i as u16,
+            q: j as u16,
+            label: label,
+        };
+    }
+    First::None
+}
+
+// The first forward step of the record at or after (p, q).
+pub fn first_step(record: &[u8], p: Node, q: Node) -> First
+    ensures { λ r. ⌜ FirstStep (now («record» .entry)) (p .0) (q .0) (refusal r) (found r) (first-place r) (second-place r) (label r) ⌝ }
+{
+    let mut actions = [NO_ACTION; NODES];
+    let mut scopes = [0u16; NODES];
+    let mut sides = [0u16; NODES];
+    let mut ends = [0u16; NODES];
+    match index(record, &mut actions, &mut scopes, &mut sides, &mut ends) {
+        Count::Refused(c) => First::Refused(c),
+        Count::Nodes(n) => next_step(&actions, &scopes, &sides, &ends, n, p, q),
+    }
+}
