@@ -90,6 +90,10 @@ extern "C" {
  */
 #define CONCOURSEL_REFUSAL(answer) ((uint8_t)((uint64_t)(answer) >> 48))
 #define CONCOURSEL_NUMBER(answer) ((uint16_t)(answer))
+#define CONCOURSEL_FOUND(answer) ((uint8_t)((uint64_t)(answer) >> 40))
+#define CONCOURSEL_LABEL(answer) ((uint8_t)((uint64_t)(answer) >> 32))
+#define CONCOURSEL_P(answer) ((uint16_t)((uint64_t)(answer) >> 16))
+#define CONCOURSEL_Q(answer) ((uint16_t)(answer))
 
 /* Reads the record. Answers its number of nodes. Refusals: 1, 2. */
 uint64_t concoursel_read(const uint8_t *record, size_t len);
@@ -107,6 +111,29 @@ uint32_t concoursel_forward(uint8_t *record, size_t len, uint16_t p, uint16_t q,
  * Refusals: 1, 2, 3, 7, 8.
  */
 uint32_t concoursel_undo(uint8_t *record, size_t len, uint16_t key);
+
+/*
+ * The first forward step at or after (p, q), p compared first and then q, that the rules allow with the least free
+ * key. Any two 16-bit numbers may be given. Found: CONCOURSEL_FOUND is 1, with places and label; a step at one place
+ * has q = 0 and so comes before the pairs of the same p. None: all fields are 0, which is no refusal.
+ * To go through all steps, begin at (0, 0) and go on at (p, q + 1). Refusals: 1, 2.
+ */
+uint64_t concoursel_first(const uint8_t *record, size_t len, uint16_t p, uint16_t q);
+
+/* Answers the number of distinct keys: of different numbers other than 0 in key bytes. Refusals: 1, 2. */
+uint64_t concoursel_count(const uint8_t *record, size_t len);
+
+/* Answers the least key from 1 on that stands nowhere in the record; there always is one. Refusals: 1, 2. */
+uint64_t concoursel_least_free(const uint8_t *record, size_t len);
+
+/*
+ * Writes the keys that the given key waits for, ascending, to the front of the row and answers how many: those other
+ * than it that stand below a prefix holding it. What lies past them stays as it was. Refusals: 1, 2, 3, 7, 9.
+ */
+uint64_t concoursel_waiting(const uint8_t *record, size_t len, uint16_t key, uint16_t *row, size_t row_len);
+
+/* Blank form: every key becomes 0. Answers the number of distinct keys removed. Refusals: 1, 2. */
+uint64_t concoursel_blank(uint8_t *record, size_t len);
 
 #ifdef __cplusplus
 }

@@ -3,11 +3,12 @@ use mathlib.Core.Path.{_≡_}
 use mathlib.Core.List.{List}
 use Prim.Native.Nat.{ℕ}
 use Rattle.operations.specs.Change.{ForwardStep, UndoStep, BlankForm}
-use Rattle.operations.specs.Ask.{ReadRecord, KeyCount, FreeKey, WaitingList}
+use Rattle.operations.specs.Ask.{ReadRecord, KeyCount, FreeKey, FirstStep, WaitingList}
 use Rattle.operations.proofs.ChangeOnce.{forward-once, undo-step-once, blank-once}
 use Rattle.operations.proofs.NumberOnce.{read-once, count-once, free-once}
 use Rattle.operations.proofs.RowOnce.{waiting-once}
-use Rattle.concoursel.specs.Packed.{PackedStep, PackedNumber, PackedLent}
+use Rattle.operations.proofs.FirstOnce.{first-once}
+use Rattle.concoursel.specs.Packed.{PackedStep, PackedNumber, PackedLent, PackedFirst, PackedFirst.packed}
 use Rattle.concoursel.proofs.Packs.{packed-step-once, packed-number-once, packed-lent-once}
 
 module _ (s : List ℕ) where
@@ -31,3 +32,6 @@ module _ (s : List ℕ) where
 
   pub waiting-entry-once : {m r r′ : ℕ} {row b b′ : List ℕ} → PackedLent (WaitingList s m row) r b → PackedLent (WaitingList s m row) r′ b′ → (r ≡ r′) × (b ≡ b′)
   waiting-entry-once = packed-lent-once (λ c c′ n n′ b b′ f g. waiting-once f g)
+
+  pub first-entry-once : {p q r r′ : ℕ} → PackedFirst (FirstStep s p q) r → PackedFirst (FirstStep s p q) r′ → r ≡ r′
+  first-entry-once (packed f) (packed g) = let e = first-once f g in rw (e .0, e .1, e .2, e .3, e .4)

@@ -23,3 +23,7 @@ pub data PackedNumber (P : ℕ → ℕ → Type 0) : ℕ → Type 0 where
 -- An answer that is a number, with the lent record or row afterwards.
 pub data PackedLent (P : ℕ → ℕ → List ℕ → Type 0) : ℕ → List ℕ → Type 0 where
   packed : {c n : ℕ} {b : List ℕ} → P c n b → PackedLent P (answer c 0 0 0 n) b
+
+-- The answer of the search for a step: mark, places and label.
+pub data PackedFirst (P : ℕ → ℕ → Node → Node → Label → Type 0) : ℕ → Type 0 where
+  packed : {c n : ℕ} {p q : Node} {l : Label} → P c n p q l → PackedFirst P (answer c n l p q)

@@ -4,19 +4,28 @@ use reader::Count;
 use reader::Key;
 use reader::Node;
 use rows::Row;
+use search::First;
 use steps::Moved;
 ghost use mathlib.Core.Path.{_≡_};
 ghost use Rattle.keys.specs.Number as number;
-ghost use Rattle.operations.specs.Ask.{ReadRecord, KeyCount, FreeKey, WaitingList};
+ghost use Rattle.operations.specs.Ask.{ReadRecord, KeyCount, FreeKey, FirstStep, WaitingList};
 ghost use Rattle.operations.specs.Change.{ForwardStep, UndoStep, BlankForm};
 ghost use Rattle.rows.specs.Row as row;
+ghost use Rattle.search.specs.First as first;
 ghost use Rattle.steps.specs.Plan as plan;
-ghost use Rattle.concoursel.specs.Packed.{step-answer, answer, PackedStep, PackedNumber, PackedLent};
+ghost use Rattle.concoursel.specs.Packed.{step-answer, answer, PackedStep, PackedNumber, PackedLent, PackedFirst};
 
 // What a refusal number is multiplied by: 2^8 in the answer of a step, 2^48 in the other answers.
 const STEP_REFUSAL: u32 = 256;
 
 const REFUSAL: u64 = 281474976710656;
+
+// And the other fields: the mark by 2^40, the label by 2^32, p by 2^16.
+const MARK: u64 = 1099511627776;
+
+const LABEL: u64 = 4294967296;
+
+const P: u64 = 65536;
 
 // The answer of a step as one number.
 fn packed_step(given: Moved) -> u32
@@ -45,6 +54,17 @@ fn packed_row(given: Row) -> u64
     match given {
         Row::Refused(c) => c as u64 * REFUSAL,
         Row::Count(n) => n as u64,
+    }
+}
+
+// The answer of the search for a step, packed.
+fn packed_first(given: First) -> u64
+    ensures { λ r. ⌜ r ≡ answer (first.refusal given) (first.found given) (first.label given) (first.first-place given) (first.second-place given) ⌝ }
+{
+    match given {
+        First::Refused(c) => c as u64 * REFUSAL,
+        First::None => 0,
+        First::Found { p, q, label } => MARK + label as u64 * LABEL + p as u64 * P + q as u64,
     }
 }
 
@@ -89,6 +109,14 @@ pub extern "C" fn concoursel_least_free(record: &[u8]) -> u64
     ensures { λ r. ⌜ PackedNumber (FreeKey (now («record» .entry))) r ⌝ }
 {
     packed_number(keys::least_free(record))
+}
+
+// The first forward step at or after (p, q): mark, label and places.
+#[no_mangle]
+pub extern "C" fn concoursel_first(record: &[u8], p: u16, q: u16) -> u64
+    ensures { λ r. ⌜ PackedFirst (FirstStep (now («record» .entry)) p q) r ⌝ }
+{
+    packed_first(search::first_step(record, Node(p), Node(q)))
 }
 
 // The blank form, and how many distinct keys that removed.
