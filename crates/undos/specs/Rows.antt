@@ -1,0 +1,33 @@
+-- The refusal number and the count of a listing's answer (01, Operations and their refusals), and what one step of writing leaves of a row.
+use mathlib.Core.Path.{_≡_}
+use mathlib.Core.List.{List, _++_}
+use mathlib.Core.Bool.{Bool, true, false}
+use Prim.Native.Nat.{ℕ, _+_}
+use lib.Dec.{eqb}
+use lib.ListN.{length, getD, set, drop}
+use Rattle.ccsk.specs.Numbers.{Lists}
+use Rattle.ccsk.specs.Term.{Key}
+use Rattle.lasts.specs.Last.{Last, only, Ready}
+use Rattle.operations.specs.Ask.{Filled}
+use Rattle.undos.specs.declared.listing.Rows.{Rows}
+use Rattle.undos.specs.declared.listing.Rows.the-variants.{Refused, Listed}
+use Rattle.undos.specs.Group.{times, listed}
+
+-- the refusal number; 0 where the list was written
+abbrev pub refusal : Rows → ℕ
+refusal (Refused c) = c
+refusal (Listed n) = 0
+
+-- how many places were filled; 0 where it was refused
+abbrev pub count : Rows → ℕ
+count (Refused c) = 0
+count (Listed n) = n
+
+-- what stands in the row after rank r, if what comes before stands there already
+abbrev pub Put : List ℕ → List ℕ → ℕ → List ℕ → ℕ → ℕ → List ℕ → Type 0
+Put states slots r row m k row′ = (old : List ℕ) → m ≡ length (listed states slots r) → row ≡ listed states slots r ++ drop m old
+    → (k ≡ length (listed states slots (r + 1))) × (row′ ≡ listed states slots (r + 1) ++ drop k old)
+
+-- The keys that are ready, of a record with these keys and these lasts, are listed in the row.
+pub data Lines (keys : List Key) (ls : List Last) (row : List ℕ) (r n : ℕ) (row′ : List ℕ) : Type 0 where
+  lines : {l : List Key} → Lists (λ k. Ready (times k keys) (only k ls)) l → Filled l row r n row′ → Lines keys ls row r n row′

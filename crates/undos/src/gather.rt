@@ -1,0 +1,135 @@
+// One pass over a record that reads it and notes, in lent arrays, its keys and the prefixes that can be the last to have been done.
+use reader::{node_at, wide, Head, CHOICE, NODES, NO_RECORD, OVER_LIMIT, PREFIX, RESTRICTION};
+use survey::pass::key_of;
+ghost use mathlib.Core.Path.{_≡_};
+ghost use mathlib.Core.Logic.{_≢_};
+ghost use mathlib.Core.List.{List, [], _++_};
+ghost use Prim.Native.Nat.{ℕ, _+_, _≤_, _<_};
+ghost use lib.ListN.{length, getD, take};
+ghost use Rattle.format.specs.Limits.{node-limit};
+ghost use Rattle.undos.specs.Gather.{lent, rows, Enters, OverPrefix, over-two, Sized, Gathers, closed};
+
+// A name and its co-name share a slot of the scopes.
+pub const SLOTS: usize = 128;
+
+// What a pass over the term at a place comes to: a refusal, or where the term ends, how many nodes may still come, and how many keys and
+// lasts are noted now.
+pub enum Outcome {
+    Refused(u8),
+    Part { next: usize, left: usize, keys: usize, lasts: usize },
+}
+
+// What a node leaves behind before its first child is read: how many keys are noted, and the scope that its name had.
+pub struct Entered {
+    pub keys: usize,
+    pub scope: u16,
+}
+
+// Enters node n at `at`: a prefix notes its key, a restriction is the scope of its name from here.
+fn enter(s: &[u8], at: usize, kind: usize, n: usize, keys: usize, all: &mut [u16; NODES], scopes: &mut [u16; SLOTS]) -> Entered
+    requires { ⌜ (kind ≡ 1 → at + 3 < length (now s)) × (kind ≡ 4 → at + 1 < length (now s)) ⌝ }
+    requires { ⌜ (n < node-limit) × (keys < node-limit) × (length (now all) ≡ node-limit) × (length (now scopes) ≡ 128) ⌝ }
+    ensures { λ r. ⌜ Enters (now (s .entry)) at kind n keys (now (all .entry)) (now (all .exit)) (now (scopes .entry)) (now (scopes .exit)) r ⌝ }
+{
+    if kind == PREFIX {
+        let key = key_of(s[at + 2], s[at + 3]);
+        if key == 0 {
+            return Entered { keys: keys, scope: 0 };
+        }
+        all[keys] = key;
+        return Entered { keys: keys + 1, scope: 0 };
+    }
+    if kind == RESTRICTION {
+        let slot = wide(s[at + 1]) % SLOTS;
+        let outer = scopes[slot];
+        scopes[slot] = (n + 1) as u16;
+        return Entered { keys: keys, scope: outer };
+    }
+    Entered { keys: keys, scope: 0 }
+}
+
+// Leaves a restriction at `at`: its name has the scope that it had before.
+fn close(s: &[u8], at: usize, outer: u16, scopes: &mut [u16; SLOTS])
+    requires { ⌜ (at + 1 < length (now s)) × (length (now scopes) ≡ 128) ⌝ }
+    ensures { λ _. ⌜ now (scopes .exit) ≡ closed (getD (now (s .entry)) (at + 1) 0) outer (now (scopes .entry)) ⌝ }
+{
+    let slot = wide(s[at + 1]) % SLOTS;
+    scopes[slot] = outer;
+}
+
+// How many lasts stay when the prefix at `at` is left. Before its child there were `keys` keys and `lasts` lasts, now there are `k` and `l`.
+fn over_prefix(s: &[u8], at: usize, keys: usize, k: usize, lasts: usize, l: usize, key: &mut [u16; NODES], action: &mut [u8; NODES], scope: &mut [u16; NODES], scopes: &[u16; SLOTS]) -> usize
+    requires { ⌜ (at + 3 < length (now s)) × (lasts < node-limit) × (length (now scopes) ≡ 128) ⌝ }
+    requires { ⌜ (length (now key) ≡ node-limit) × (length (now action) ≡ node-limit) × (length (now scope) ≡ node-limit) ⌝ }
+    ensures { λ r. ⌜ OverPrefix (now (s .entry)) at keys k lasts l (rows (now (key .entry)) (now (action .entry)) (now (scope .entry))) (now (scopes .entry)) r (rows (now (key .exit)) (now (action .exit)) (now (scope .exit))) × (length (now (key .exit)) ≡ node-limit) × (length (now (action .exit)) ≡ node-limit) × (length (now (scope .exit)) ≡ node-limit) ⌝ }
+{
+    let own = key_of(s[at + 2], s[at + 3]);
+    if own == 0 {
+        return lasts;
+    }
+    if k == keys {
+        key[lasts] = own;
+        action[lasts] = s[at + 1];
+        scope[lasts] = scopes[wide(s[at + 1]) % SLOTS];
+        return lasts + 1;
+    }
+    l
+}
+
+// How many lasts stay when a choice or a parallel is left. There were k0 keys and l0 lasts before it, and k1 keys between its sides.
+fn over_two(kind: usize, k0: usize, k1: usize, k2: usize, l0: usize, l2: usize) -> usize
+    ensures { λ r. ⌜ r ≡ over-two kind k0 k1 k2 l0 l2 ⌝ }
+{
+    if kind == CHOICE {
+        if k1 == k0 {
+            return l2;
+        }
+        if k2 == k1 {
+            return l2;
+        }
+        return l0;
+    }
+    l2
+}
+
+// The term at `at`: at most `deep` levels and `left` nodes may come; `keys` keys and `lasts` lasts are noted so far.
+pub fn gather(s: &[u8], at: usize, deep: usize, left: usize, keys: usize, lasts: usize, all: &mut [u16; NODES], key: &mut [u16; NODES], action: &mut [u8; NODES], scope: &mut [u16; NODES], scopes: &mut [u16; SLOTS]) -> Outcome
+    requires { ⌜ (keys + left ≤ node-limit) × (lasts ≤ keys) ⌝ }
+    requires { ⌜ Sized (now scopes) (now all) (now key) (now action) (now scope) ⌝ }
+    ensures { λ r. ⌜ Gathers (now (s .entry)) at deep left keys lasts (lent (now (scopes .entry)) (now (all .entry)) (now (key .entry)) (now (action .entry)) (now (scope .entry))) r (lent (now (scopes .exit)) (now (all .exit)) (now (key .exit)) (now (action .exit)) (now (scope .exit))) (Sized (now (scopes .exit)) (now (all .exit)) (now (key .exit)) (now (action .exit)) (now (scope .exit))) ⌝ }
+{
+    if s.len() <= at {
+        return Outcome::Refused(NO_RECORD);
+    }
+    if deep == 0 {
+        return Outcome::Refused(OVER_LIMIT);
+    }
+    if left == 0 {
+        return Outcome::Refused(OVER_LIMIT);
+    }
+    match node_at(s, at) {
+        Head::Bad => Outcome::Refused(NO_RECORD),
+        Head::Node { kind, children, next } => {
+            if children == 0 {
+                return Outcome::Part { next: next, left: left - 1, keys: keys, lasts: lasts };
+            }
+            let entered = enter(s, at, kind, NODES - left, keys, all, scopes);
+            match gather(s, next, deep - 1, left - 1, entered.keys, lasts, all, key, action, scope, scopes) {
+                Outcome::Refused(c) => Outcome::Refused(c),
+                Outcome::Part { next: second, left: rest, keys: k, lasts: l } => {
+                    if children == 1 {
+                        if kind == PREFIX {
+                            return Outcome::Part { next: second, left: rest, keys: k, lasts: over_prefix(s, at, entered.keys, k, lasts, l, key, action, scope, scopes) };
+                        }
+                        close(s, at, entered.scope, scopes);
+                        return Outcome::Part { next: second, left: rest, keys: k, lasts: l };
+                    }
+                    match gather(s, second, deep - 1, rest, k, l, all, key, action, scope, scopes) {
+                        Outcome::Refused(c) => Outcome::Refused(c),
+                        Outcome::Part { next: end, left: last, keys: m, lasts: n } => Outcome::Part { next: end, left: last, keys: m, lasts: over_two(kind, keys, k, m, lasts, n) },
+                    }
+                }
+            }
+        }
+    }
+}

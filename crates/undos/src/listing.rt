@@ -1,0 +1,117 @@
+// The undo listing (01, Operations): the keys whose undo is allowed, ascending, into a lent row.
+use crate::gather::{gather, Outcome, SLOTS};
+use crate::group::{mark_all, settle, READY};
+use keyset::BYTES;
+use rank::fill;
+use reader::{DEPTH, NODES, NO_RECORD};
+ghost use mathlib.Core.Path.{_≡_};
+ghost use mathlib.Core.List.{List, _++_};
+ghost use Prim.Native.Nat.{ℕ, _+_, _≤_, _<_};
+ghost use lib.ListN.{length, getD, take, drop};
+ghost use Rattle.format.specs.Limits.{node-limit};
+ghost use Rattle.operations.specs.Ask.{UndoListing};
+ghost use Rattle.undos.specs.Group.{Small, Positive, AllAmong, listed};
+ghost use Rattle.undos.specs.Rows.{refusal, count, Put, Lines};
+ghost use Rattle.undos.specs.Gather.{rows};
+
+// The row is shorter than the list.
+pub const SHORT_ROW: u8 = 9;
+
+// The answer of a listing: a refusal number, or how many places of the row were filled.
+pub enum Rows {
+    Refused(u8),
+    Listed(usize),
+}
+
+// How many of the first n ranks are ready.
+fn count_ready(state: &[u8; NODES], n: usize) -> usize
+    requires { ⌜ (length (now state) ≡ node-limit) × (n ≤ node-limit) ⌝ }
+    ensures { λ r. ⌜ ((slots : List ℕ) → r ≡ length (listed (now (state .entry)) slots n)) ⌝ }
+{
+    let mut r: usize = 0;
+    let mut m: usize = 0;
+    while r < n {
+        m = m + ready_at(state, r);
+        r += 1;
+    }
+    m
+}
+
+// One if rank r is ready.
+fn ready_at(state: &[u8; NODES], r: usize) -> usize
+    requires { ⌜ (length (now state) ≡ node-limit) × (r < node-limit) ⌝ }
+    ensures { λ m. ⌜ ((slots : List ℕ) → length (listed (now (state .entry)) slots r) + m ≡ length (listed (now (state .entry)) slots (r + 1))) × (m ≤ 1) ⌝ }
+{
+    if state[r] == READY {
+        return 1;
+    }
+    0
+}
+
+// Writes the key of rank r at place m of the row, if it is ready, and answers the next place.
+fn put(state: &[u8; NODES], slot: &[u16; NODES], r: usize, row: &mut [u16], m: usize) -> usize
+    requires { ⌜ (length (now state) ≡ node-limit) × (length (now slot) ≡ node-limit) × (r < node-limit) ⌝ }
+    requires { ⌜ (getD (now state) r 0 ≡ 5 → m < length (now row)) × (m < 65536) ⌝ }
+    ensures { λ k. ⌜ Put (now (state .entry)) (now (slot .entry)) r (now (row .entry)) m k (now (row .exit)) ⌝ }
+{
+    if state[r] == READY {
+        row[m] = slot[r];
+        return m + 1;
+    }
+    m
+}
+
+// Writes the keys of the first n ranks that are ready to the front of the row, which is long enough.
+fn write_ready(state: &[u8; NODES], slot: &[u16; NODES], n: usize, row: &mut [u16])
+    requires { ⌜ (length (now state) ≡ node-limit) × (length (now slot) ≡ node-limit) × (n ≤ node-limit) ⌝ }
+    requires { ⌜ length (listed (now state) (now slot) n) ≤ length (now row) ⌝ }
+    ensures { λ _. ⌜ now (row .exit) ≡ listed (now (state .entry)) (now (slot .entry)) n ++ drop (length (listed (now (state .entry)) (now (slot .entry)) n)) (now (row .entry)) ⌝ }
+{
+    let mut r: usize = 0;
+    let mut m: usize = 0;
+    while r < n {
+        m = put(state, slot, r, row, m);
+        r += 1;
+    }
+}
+
+// Lists the keys that can be undone, from the first m keys and the first n lasts that were noted.
+fn list(all: &[u16; NODES], m: usize, key: &[u16; NODES], action: &[u8; NODES], scope: &[u16; NODES], n: usize, row: &mut [u16]) -> Rows
+    requires { ⌜ (length (now all) ≡ node-limit) × (m ≤ node-limit) × Small (take m (now all)) × Positive (take m (now all)) ⌝ }
+    requires { ⌜ (length (now key) ≡ node-limit) × (length (now action) ≡ node-limit) × (length (now scope) ≡ node-limit) × (n ≤ node-limit) × AllAmong (take m (now all)) (take n (rows (now key) (now action) (now scope))) ⌝ }
+    ensures { λ r. ⌜ Lines (take m (now (all .entry))) (take n (rows (now (key .entry)) (now (action .entry)) (now (scope .entry)))) (now (row .entry)) (refusal r) (count r) (now (row .exit)) ⌝ }
+{
+    let mut marks = [0u8; BYTES];
+    mark_all(all, m, &mut marks);
+    let mut base = [0u16; BYTES];
+    let total = fill(&marks, &mut base);
+    let mut state = [0u8; NODES];
+    let mut slot = [0u16; NODES];
+    settle(all, m, key, action, scope, n, &marks, &base, &mut state, &mut slot);
+    let count = count_ready(&state, total);
+    if row.len() < count {
+        return Rows::Refused(SHORT_ROW);
+    }
+    write_ready(&state, &slot, total, row);
+    Rows::Listed(count)
+}
+
+// The keys of the record whose undo is allowed, ascending, to the front of the row.
+pub fn undo_listing(bytes: &[u8], row: &mut [u16]) -> Rows
+    ensures { λ r. ⌜ UndoListing (now (bytes .entry)) (now (row .entry)) (refusal r) (count r) (now (row .exit)) ⌝ }
+{
+    let mut all = [0u16; NODES];
+    let mut key = [0u16; NODES];
+    let mut action = [0u8; NODES];
+    let mut scope = [0u16; NODES];
+    let mut scopes = [0u16; SLOTS];
+    match gather(bytes, 0, DEPTH, NODES, 0, 0, &mut all, &mut key, &mut action, &mut scope, &mut scopes) {
+        Outcome::Refused(c) => Rows::Refused(c),
+        Outcome::Part { next, left: _, keys, lasts } => {
+            if next < bytes.len() {
+                return Rows::Refused(NO_RECORD);
+            }
+            list(&all, keys, &key, &action, &scope, lasts, row)
+        }
+    }
+}
