@@ -127,6 +127,12 @@ uint64_t concoursel_count(const uint8_t *record, size_t len);
 uint64_t concoursel_least_free(const uint8_t *record, size_t len);
 
 /*
+ * Writes the keys whose undo is allowed, ascending, to the front of the row and answers how many; what lies past them
+ * stays as it was. A row of 4096 places is always long enough. Refusals: 1, 2, 9.
+ */
+uint64_t concoursel_undo_listing(const uint8_t *record, size_t len, uint16_t *row, size_t row_len);
+
+/*
  * Writes the keys that the given key waits for, ascending, to the front of the row and answers how many: those other
  * than it that stand below a prefix holding it. What lies past them stays as it was. Refusals: 1, 2, 3, 7, 9.
  */

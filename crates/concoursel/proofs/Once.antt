@@ -3,10 +3,10 @@ use mathlib.Core.Path.{_≡_}
 use mathlib.Core.List.{List}
 use Prim.Native.Nat.{ℕ}
 use Rattle.operations.specs.Change.{ForwardStep, UndoStep, BlankForm}
-use Rattle.operations.specs.Ask.{ReadRecord, KeyCount, FreeKey, FirstStep, WaitingList}
+use Rattle.operations.specs.Ask.{ReadRecord, KeyCount, FreeKey, FirstStep, UndoListing, WaitingList}
 use Rattle.operations.proofs.ChangeOnce.{forward-once, undo-step-once, blank-once}
 use Rattle.operations.proofs.NumberOnce.{read-once, count-once, free-once}
-use Rattle.operations.proofs.RowOnce.{waiting-once}
+use Rattle.operations.proofs.RowOnce.{listing-once, waiting-once}
 use Rattle.operations.proofs.FirstOnce.{first-once}
 use Rattle.concoursel.specs.Packed.{PackedStep, PackedNumber, PackedLent, PackedFirst, PackedFirst.packed}
 use Rattle.concoursel.proofs.Packs.{packed-step-once, packed-number-once, packed-lent-once}
@@ -35,3 +35,6 @@ module _ (s : List ℕ) where
 
   pub first-entry-once : {p q r r′ : ℕ} → PackedFirst (FirstStep s p q) r → PackedFirst (FirstStep s p q) r′ → r ≡ r′
   first-entry-once (packed f) (packed g) = let e = first-once f g in rw (e .0, e .1, e .2, e .3, e .4)
+
+  pub undo-listing-entry-once : {r r′ : ℕ} {row b b′ : List ℕ} → PackedLent (UndoListing s row) r b → PackedLent (UndoListing s row) r′ b′ → (r ≡ r′) × (b ≡ b′)
+  undo-listing-entry-once = packed-lent-once (λ c c′ n n′ b b′ f g. listing-once f g)

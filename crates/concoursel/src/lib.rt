@@ -6,13 +6,15 @@ use reader::Node;
 use rows::Row;
 use search::First;
 use steps::Moved;
+use undos::listing::Rows;
 ghost use mathlib.Core.Path.{_≡_};
 ghost use Rattle.keys.specs.Number as number;
-ghost use Rattle.operations.specs.Ask.{ReadRecord, KeyCount, FreeKey, FirstStep, WaitingList};
+ghost use Rattle.operations.specs.Ask.{ReadRecord, KeyCount, FreeKey, FirstStep, UndoListing, WaitingList};
 ghost use Rattle.operations.specs.Change.{ForwardStep, UndoStep, BlankForm};
 ghost use Rattle.rows.specs.Row as row;
 ghost use Rattle.search.specs.First as first;
 ghost use Rattle.steps.specs.Plan as plan;
+ghost use Rattle.undos.specs.Rows as allowed;
 ghost use Rattle.concoursel.specs.Packed.{step-answer, answer, PackedStep, PackedNumber, PackedLent, PackedFirst};
 
 // What a refusal number is multiplied by: 2^8 in the answer of a step, 2^48 in the other answers.
@@ -54,6 +56,16 @@ fn packed_row(given: Row) -> u64
     match given {
         Row::Refused(c) => c as u64 * REFUSAL,
         Row::Count(n) => n as u64,
+    }
+}
+
+// The answer of the undo listing, packed.
+fn packed_listing(given: Rows) -> u64
+    ensures { λ r. ⌜ r ≡ answer (allowed.refusal given) 0 0 0 (allowed.count given) ⌝ }
+{
+    match given {
+        Rows::Refused(c) => c as u64 * REFUSAL,
+        Rows::Listed(n) => n as u64,
     }
 }
 
@@ -125,6 +137,14 @@ pub extern "C" fn concoursel_blank(record: &mut [u8]) -> u64
     ensures { λ r. ⌜ PackedLent (BlankForm (now («record» .entry))) r (now («record» .exit)) ⌝ }
 {
     packed_number(keys::blank(record))
+}
+
+// The keys whose undo is allowed, ascending, to the front of the row.
+#[no_mangle]
+pub extern "C" fn concoursel_undo_listing(record: &[u8], list: &mut [u16]) -> u64
+    ensures { λ r. ⌜ PackedLent (UndoListing (now («record» .entry)) (now (list .entry))) r (now (list .exit)) ⌝ }
+{
+    packed_listing(undos::listing::undo_listing(record, list))
 }
 
 // The waiting list of the key, to the front of the row.

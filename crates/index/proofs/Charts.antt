@@ -1,13 +1,13 @@
 -- The pass at a node of each kind: the lines of its children and its own line are the lines of the term.
-use mathlib.Core.Path.{_≡_, refl, sym, ap, subst, _∙_}
+use mathlib.Core.Path.{_≡_, refl, sym, ap, _∙_}
 use mathlib.Core.Logic.{_≢_}
-use mathlib.Core.List.{List, [], _∷_, _++_}
+use mathlib.Core.List.{List, _∷_, _++_}
 use mathlib.Core.Bool.{Bool, true, false, cond, not, _||_}
-use Prim.Native.Nat.{ℕ, zero, suc, _+_, _-_, _<_, _≤_}
+use Prim.Native.Nat.{ℕ, _+_, _-_, _≤_}
 use native.Mathlib.Omega.{arith}
 use borrow.Author.Tests.{eq-eqb, ne-eqb}
 use lib.Dec.{eqb}
-use lib.ListN.{length, getD, set, replicate, length-set, length-replicate, length-append, replicate-append-replicate}
+use lib.ListN.{length, getD, set, replicate, length-set, length-append, replicate-append-replicate}
 use lib.Seq.{sets, length-sets, set-set, set-getD}
 use Rattle.ccsk.specs.Term.{Term, Node, nil, pre, cho, par, res, size}
 use Rattle.format.specs.Limits.{node-limit}

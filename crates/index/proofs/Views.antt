@@ -1,14 +1,14 @@
 -- The first node of a term whose record stands at a place: its kind, its body, and where its children stand.
 use mathlib.Core.Path.{_≡_, refl, sym, subst, _∙_}
-use mathlib.Core.Logic.{_⊎_, inl, inr, ⊎-elim, _≢_}
-use mathlib.Core.List.{List, [], _∷_, _++_}
-use Prim.Native.Nat.{ℕ, suc, _+_, _<_, _≤_}
+use mathlib.Core.Logic.{_≢_}
+use mathlib.Core.List.{List}
+use Prim.Native.Nat.{ℕ, _+_, _<_, _≤_}
 use native.Mathlib.Omega.{arith}
 use lib.ListN.{length, getD, length-append}
-use Rattle.ccsk.specs.Term.{Term, Node, nil, pre, cho, par, res, size}
+use Rattle.ccsk.specs.Term.{Term, nil, pre, cho, par, res, size}
 use Rattle.format.specs.Limits.{node-limit}
 use Rattle.format.specs.Read.{keyOf}
-use Rattle.format.specs.Encode.{encode, high, low, InRange}
+use Rattle.format.specs.Encode.{encode, high, low}
 use Rattle.format.proofs.Round.{key-bytes}
 use Rattle.reader.specs.Head.{body, childCount}
 use Rattle.paths.specs.Rows.{Holds}

@@ -1,9 +1,9 @@
 -- A whole record: its reading gives the term that stands at its start, and the pass over that term fills the rows.
-use mathlib.Core.Path.{_≡_, refl, sym, subst, ap, _∙_}
+use mathlib.Core.Path.{_≡_, refl, subst, ap, _∙_}
 use mathlib.Core.Logic.{_⊎_, inl, inr, ⊎-elim}
-use mathlib.Core.List.{List, [], _∷_, _++_}
+use mathlib.Core.List.{List, [], _∷_}
 use mathlib.Core.Bool.{true}
-use Prim.Native.Nat.{ℕ, zero, suc, _+_, _<_, _≤_}
+use Prim.Native.Nat.{ℕ, suc, _+_, _<_, _≤_}
 use native.Mathlib.Omega.{arith}
 use lib.ListN.{length, getD, drop, length-replicate, List·getD-append}
 use lib.Seq.{sets, sets-eq}
@@ -17,10 +17,10 @@ use Rattle.operations.specs.Ask.{ReadRecord, unreadable, done}
 use Rattle.reader.specs.Count.{refusal, nodes}
 use Rattle.reader.specs.declared.Count.{Count}
 use Rattle.reader.specs.declared.Count.the-variants.{Refused, Nodes}
-use Rattle.paths.specs.Rows.{Holds, no-scopes, actions, scopes, sides, ends, Indexed}
+use Rattle.paths.specs.Rows.{Holds, no-scopes, actions, scopes, sides, ends}
 use Rattle.paths.proofs.Lines.{length-actions, length-scopes, length-sides, length-ends}
 use Rattle.index.specs.declared.Span.{Span}
-use Rattle.index.specs.Chart.{Room, Stands, SomeTerm, Charts}
+use Rattle.index.specs.Chart.{Room, Stands, Charts}
 use Rattle.index.specs.Whole.{Rows}
 use Rattle.index.proofs.Charts.{room-charted}
 

@@ -45,6 +45,7 @@ pub struct Span {
     pub holds: bool,
 }
 
+// A term that ends there.
 fn ended(next: usize, end: usize, holds: bool) -> Span
     ensures { λ r. ⌜ (r .next ≡ next) × (r .end ≡ end) × (r .holds ≡ holds) ⌝ }
 {
@@ -72,6 +73,7 @@ fn is_done(high: u8, low: u8) -> bool
     high as u16 * 256 + low as u16 != 0
 }
 
+// Both hold.
 fn both(x: bool, y: bool) -> bool
     ensures { λ r. ⌜ r ≡ and x y ⌝ }
 {
@@ -81,6 +83,7 @@ fn both(x: bool, y: bool) -> bool
     false
 }
 
+// The first holds and the second does not.
 fn but_not(x: bool, y: bool) -> bool
     ensures { λ r. ⌜ r ≡ and x (not y) ⌝ }
 {
@@ -93,6 +96,7 @@ fn but_not(x: bool, y: bool) -> bool
     false
 }
 
+// One of the two holds, or both.
 fn either(x: bool, y: bool) -> bool
     ensures { λ r. ⌜ r ≡ (x || y) ⌝ }
 {
@@ -112,6 +116,7 @@ fn seen(may: bool, a: u8) -> u8
     NO_ACTION
 }
 
+// The first number if the test holds, else the second.
 fn pick(test: bool, x: usize, y: usize) -> usize
     ensures { λ r. ⌜ r ≡ cond test x y ⌝ }
 {
@@ -121,7 +126,7 @@ fn pick(test: bool, x: usize, y: usize) -> usize
     y
 }
 
-// No action for the nodes from `from` to before `to`.
+// No action for the nodes from `from` to before `to`. In a record that keeps condition 2 of soundness no node is silenced twice.
 fn silence(actions: &mut [u8; NODES], from: usize, to: usize)
     requires { ⌜ (length (now actions) ≡ node-limit) × (from ≤ to) × (to ≤ node-limit) ⌝ }
     ensures { λ _. ⌜ now (actions .exit) ≡ sets (now (actions .entry)) from (replicate (to - from) no-action) ⌝ }

@@ -1,15 +1,15 @@
 -- What the rules derive, the rows tell: a step's one place steps alone, its two places step together.
 use mathlib.Core.Path.{_≡_, refl, sym, _∙_}
-use mathlib.Core.Logic.{_⊎_, inl, inr, ⊎-elim, _≢_}
+use mathlib.Core.Logic.{_≢_}
 use mathlib.Core.List.{List, [], _∷_, _++_}
-use mathlib.Core.Bool.{Bool, true, false}
-use Prim.Native.Nat.{ℕ, zero, suc, _+_, _<_, _≤_}
+use mathlib.Core.Bool.{true}
+use Prim.Native.Nat.{ℕ, _+_, _<_}
 use native.Mathlib.Nat.{add-zero}
 use native.Mathlib.Omega.{arith}
 use borrow.Author.Tests.{ne-eqb}
 use lib.ListN.{getD, set}
 use lib.Seq.{getD-set-other}
-use Rattle.ccsk.specs.Term.{Term, Name, Label, Key, Node, pre, cho, par, res, Channel, Co, On, size}
+use Rattle.ccsk.specs.Term.{Term, Label, Key, Node, par, Channel, Co, On, size}
 use Rattle.ccsk.specs.Step.{Forward, Forward.top, Forward.prefix, Forward.choice₁, Forward.choice₂, Forward.par₁, Forward.par₂, Forward.synch, Forward.restrict}
 use Rattle.ccsk.specs.Place.{shift, places}
 use Rattle.ccsk.proofs.Place.{Under, places-under, co-pos}

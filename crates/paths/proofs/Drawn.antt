@@ -3,10 +3,10 @@ use mathlib.Core.Path.{_≡_, refl, sym, ap, _∙_}
 use mathlib.Core.Logic.{_⊎_, inl, inr, ⊎-elim, _≢_}
 use mathlib.Core.List.{List, [], _∷_}
 use mathlib.Core.Bool.{Bool, true, false, not}
-use Prim.Native.Nat.{ℕ, zero, suc, _+_, _-_, _<_, _≤_}
+use Prim.Native.Nat.{ℕ, _+_, _-_, _<_, _≤_}
 use native.Mathlib.Decide.{ℕ-discrete}
 use native.Mathlib.Omega.{arith}
-use borrow.Author.Tests.{eqb-true, eqb-false}
+use borrow.Author.Tests.{eqb-false}
 use lib.Dec.{eqb}
 use lib.ListN.{length, getD, set, length-set}
 use lib.Seq.{getD-set-same, getD-set-other}
@@ -17,8 +17,8 @@ use Rattle.ccsk.proofs.ForwardDec.{do-zero, do-pre, do-cho, do-par, do-res}
 use Rattle.format.specs.Encode.{InRange}
 use Rattle.moves.specs.Move.{holds}
 use Rattle.moves.proofs.Holds.{Says, equal-says, Holding, holding, holds-std}
-use Rattle.paths.specs.Rows.{no-action, channel, and, shown, Barred, Joined}
-use Rattle.paths.proofs.Channels.{co-channel, on-channel, channel-on, co-action}
+use Rattle.paths.specs.Rows.{no-action, channel, and, shown, Joined}
+use Rattle.paths.proofs.Channels.{on-channel, co-action}
 use Rattle.paths.proofs.Lines.{Laid}
 use Rattle.paths.proofs.Climb.{Inside, one-below, two-below, barred-here, barred-same, laid-end}
 

@@ -5,3 +5,4 @@ pub mod Climb
 pub mod Derived
 pub mod Drawn
 pub mod Steps
+pub mod Examples

@@ -1,24 +1,21 @@
 -- The rows of a term tell exactly the steps that the rules derive, for every key that stands nowhere in the term.
-use mathlib.Core.Path.{_≡_, refl, sym, subst, _∙_}
-use mathlib.Core.Logic.{_⊎_, inl, inr, ⊎-elim, _≢_, _↔_}
+use mathlib.Core.Path.{_≡_, sym, subst, _∙_}
+use mathlib.Core.Logic.{_↔_}
 use mathlib.Core.List.{List, [], _∷_}
 use mathlib.Core.Bool.{true}
-use Prim.Native.Nat.{ℕ, zero, suc, _+_, _-_, _<_, _≤_}
+use Prim.Native.Nat.{ℕ, suc, _+_, _-_, _<_, _≤_}
 use native.Mathlib.Decide.{decLt}
-use native.Mathlib.Nat.{add-zero}
 use native.Mathlib.Omega.{arith}
 use lib.ListN.{length, getD, length-replicate, getD-replicate, List·getD-eq-default}
 use Rattle.ccsk.specs.Numbers.{LeastFree}
-use Rattle.ccsk.specs.Term.{Term, Label, Key, Node, Has, Fsh, keys, size}
-use Rattle.ccsk.specs.Place.{places, ForwardAt}
+use Rattle.ccsk.specs.Term.{Term, Label, Key, Node, Fsh, keys, size}
+use Rattle.ccsk.specs.Place.{ForwardAt}
 use Rattle.ccsk.proofs.Lists.{least-free}
 use Rattle.ccsk.proofs.Keys.{has-in}
 use Rattle.ccsk.proofs.Place.{Under, places-under}
-use Rattle.ccsk.proofs.ForwardDec.{zero-one}
-use Rattle.ccsk.proofs.Forward.{fresh-before}
 use Rattle.format.specs.Encode.{InRange}
-use Rattle.operations.specs.Order.{pair, FreeStep}
-use Rattle.paths.specs.Rows.{no-action, channel, no-scopes, Indexed, Alone, Joined}
+use Rattle.operations.specs.Order.{FreeStep}
+use Rattle.paths.specs.Rows.{channel, no-scopes, Indexed, Alone, Joined}
 use Rattle.paths.proofs.Lines.{Laid, laid}
 use Rattle.paths.proofs.Climb.{barred-none, laid-low}
 use Rattle.paths.proofs.Derived.{Told, one, two, step-told}

@@ -1,5 +1,5 @@
 -- How far the search has come: every step at or after the start that the rows allow stands at or after the present places.
-use mathlib.Core.Path.{_≡_, refl, sym, subst, _∙_}
+use mathlib.Core.Path.{_≡_, refl, sym, _∙_}
 use mathlib.Core.Logic.{_⊎_, inl, inr, ⊎-elim, _≢_, _↔_}
 use mathlib.Core.List.{List}
 use mathlib.Core.Bool.{Bool, true, false, true≢false}
@@ -7,7 +7,7 @@ use Prim.Native.Nat.{ℕ, zero, suc, _+_, _<_, _≤_}
 use native.Mathlib.Decide.{ℕ-discrete, decLt}
 use native.Mathlib.Omega.{arith}
 use lib.ListN.{getD}
-use Rattle.ccsk.specs.Term.{Term, Label, Node, size}
+use Rattle.ccsk.specs.Term.{Term, Label, Node}
 use Rattle.format.specs.Limits.{node-limit}
 use Rattle.operations.specs.Order.{AtOrAfter, FreeStep, NoFreeStep, FirstFrom}
 use Rattle.paths.specs.Rows.{no-action, Barred, Alone, Joined}

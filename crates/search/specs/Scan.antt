@@ -3,10 +3,10 @@ use mathlib.Core.Path.{_≡_}
 use mathlib.Core.Logic.{_⊎_, _≢_, _↔_}
 use mathlib.Core.List.{List}
 use mathlib.Core.Bool.{Bool, true}
-use Prim.Native.Nat.{ℕ, _+_, _-_, _<_, _≤_}
+use Prim.Native.Nat.{ℕ, _-_, _<_, _≤_}
 use lib.ListN.{getD}
 use Rattle.ccsk.specs.Term.{Label, Node, Co}
-use Rattle.paths.specs.Rows.{no-action, Barred}
+use Rattle.paths.specs.Rows.{Barred}
 
 -- w is the label that a joins with, or 0 where it joins with none
 pub record Wants (a w : Label) : Type 0 where

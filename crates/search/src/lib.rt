@@ -55,6 +55,7 @@ fn agree(want: u8, action: u8, scope: u16, other: u16) -> bool
     false
 }
 
+// The larger of two numbers.
 fn later(x: usize, y: usize) -> usize
     ensures { λ r. ⌜ (x ≤ r) × (y ≤ r) × ((z : ℕ) → x ≤ z → y ≤ z → r ≤ z) ⌝ }
 {
@@ -101,7 +102,8 @@ fn is_alone(from: usize, scope: u16) -> bool
     false
 }
 
-// The first step at or after (p, q), by the rows that `index` has filled for a record of so many nodes.
+// The first step at or after (p, q), by the rows that `index` has filled for a record of so many nodes. A listing asks it again and again.
+// Partners of a place are passed over in constant time, and going up past choices costs each place no more than its depth.
 pub fn next_step(
     actions: &[u8; NODES],
     scopes: &[u16; NODES],

@@ -26,7 +26,7 @@ use Rattle.survey.specs.declared.pass.Whole.{Whole}
 use Rattle.survey.specs.declared.pass.Whole.the-variants as whole
 use Rattle.survey.specs.Seen.{Found, moveOf}
 use Rattle.survey.specs.Survey.{Looked}
-use Rattle.steps.specs.Plan.{planned, told, carried, Inside, place, settled}
+use Rattle.steps.specs.Plan.{planned, told, carried, Inside, place, settled, WouldUndo}
 
 -- a list of elements below 256 is a list of bytes
 pub bytes-of : (s : List ℕ) → ((i : ℕ) → getD s i 0 < 256) → Bytes s
@@ -155,3 +155,7 @@ inside-one n r l i e h = subst (Inside n) e h
 
 pub inside-two : (n : ℕ) (r : Plan) (l i j : ℕ) → r ≡ Two l i j → Inside n r → (i + 3 < n) × (j + 3 < n)
 inside-two n r l i j e h = subst (Inside n) e h
+
+-- a plan of an undo tells what the undo would answer
+pub would-undo : (s : List ℕ) (m : ℕ) (r x : Plan) → r ≡ x → UndoPlan s m r → WouldUndo s m (planned x) (told x)
+would-undo s m r x e h = rw (← e) (carried 0 r s, h .1)

@@ -1,5 +1,4 @@
 -- `chart` meets its contract: each return is one law of Charts, and each call of itself begins at a later node.
-use borrow.Author.Needs.{needs}
 use native.Mathlib.Omega.{arith}
 use mathlib.Core.Path.{refl, _∙_}
 use lib.Dec.{eqb}
@@ -38,10 +37,10 @@ chart-shared-slice-read-wide : (t : ℕ) → chart-lts.Need-shared-slice-read-wi
 chart-shared-slice-read-wide t c = omega (arith, stands-first (c .before .before .args .s .now) (c .before .before .args .at) (c .before .before .args .n) (c .before .before .pre .1 .0 .0) (c .before .before .pre .1 .0 .1))
 
 chart-wide-requires : (t : ℕ) → chart-lts.Need-wide-requires (wide-reads.Asked, wide-reads.Learnt, note-reads.Asked, note-reads.Learnt, ended-reads.Asked, ended-reads.Learnt, is-done-reads.Asked, is-done-reads.Learnt, both-reads.Asked, both-reads.Learnt, chart-below t, chart.Post, but-not-reads.Asked, but-not-reads.Learnt, seen-reads.Asked, seen-reads.Learnt, channel-of-reads.Asked, channel-of-reads.Learnt, either-reads.Asked, either-reads.Learnt, pick-reads.Asked, pick-reads.Learnt, silence-reads.Asked, silence-reads.Learnt) (chart-at t) chart.Post
-chart-wide-requires t c κs = search needs
+chart-wide-requires t c κs = tt
 
 chart-add-next : (t : ℕ) → chart-lts.Need-add-next (wide-reads.Asked, wide-reads.Learnt, note-reads.Asked, note-reads.Learnt, ended-reads.Asked, ended-reads.Learnt, is-done-reads.Asked, is-done-reads.Learnt, both-reads.Asked, both-reads.Learnt, chart-below t, chart.Post, but-not-reads.Asked, but-not-reads.Learnt, seen-reads.Asked, seen-reads.Learnt, channel-of-reads.Asked, channel-of-reads.Learnt, either-reads.Asked, either-reads.Learnt, pick-reads.Asked, pick-reads.Learnt, silence-reads.Asked, silence-reads.Learnt) (chart-at t) chart.Post
-chart-add-next t c = search needs
+chart-add-next t c = omega arith
 
 chart-mul-next : (t : ℕ) → chart-lts.Need-mul-next (wide-reads.Asked, wide-reads.Learnt, note-reads.Asked, note-reads.Learnt, ended-reads.Asked, ended-reads.Learnt, is-done-reads.Asked, is-done-reads.Learnt, both-reads.Asked, both-reads.Learnt, chart-below t, chart.Post, but-not-reads.Asked, but-not-reads.Learnt, seen-reads.Asked, seen-reads.Learnt, channel-of-reads.Asked, channel-of-reads.Learnt, either-reads.Asked, either-reads.Learnt, pick-reads.Asked, pick-reads.Learnt, silence-reads.Asked, silence-reads.Learnt) (chart-at t) chart.Post
 chart-mul-next t c = omega (arith, kind-known (c .before .before .before .args .s .now) (c .before .before .before .args .at) (c .before .before .before .args .n) (c .wide .result) (c .wide .ensures) (c .before .before .before .pre .1 .0))
@@ -53,7 +52,7 @@ chart-add-next-2 : (t : ℕ) → chart-lts.Need-add-next-2 (wide-reads.Asked, wi
 chart-add-next-2 t c = omega (arith, body-there (c .before .before .before .args .s .now) (c .before .before .before .args .at) (c .before .before .before .args .n) (c .wide .result) (c .wide .ensures) (c .before .before .before .pre .1 .0))
 
 chart-add-i : (t : ℕ) → chart-lts.Need-add-i (wide-reads.Asked, wide-reads.Learnt, note-reads.Asked, note-reads.Learnt, ended-reads.Asked, ended-reads.Learnt, is-done-reads.Asked, is-done-reads.Learnt, both-reads.Asked, both-reads.Learnt, chart-below t, chart.Post, but-not-reads.Asked, but-not-reads.Learnt, seen-reads.Asked, seen-reads.Learnt, channel-of-reads.Asked, channel-of-reads.Learnt, either-reads.Asked, either-reads.Learnt, pick-reads.Asked, pick-reads.Learnt, silence-reads.Asked, silence-reads.Learnt) (chart-at t) chart.Post
-chart-add-i t c = search needs
+chart-add-i t c = omega arith
 
 chart-mul-if1 : (t : ℕ) → chart-lts.Need-mul-if1 (wide-reads.Asked, wide-reads.Learnt, note-reads.Asked, note-reads.Learnt, ended-reads.Asked, ended-reads.Learnt, is-done-reads.Asked, is-done-reads.Learnt, both-reads.Asked, both-reads.Learnt, chart-below t, chart.Post, but-not-reads.Asked, but-not-reads.Learnt, seen-reads.Asked, seen-reads.Learnt, channel-of-reads.Asked, channel-of-reads.Learnt, either-reads.Asked, either-reads.Learnt, pick-reads.Asked, pick-reads.Learnt, silence-reads.Asked, silence-reads.Learnt) (chart-at t) chart.Post
 chart-mul-if1 t c = omega (arith, kind-known (c .before .before .before .args .s .now) (c .before .before .before .args .at) (c .before .before .before .args .n) (c .wide .result) (c .wide .ensures) (c .before .before .before .pre .1 .0))
@@ -65,64 +64,64 @@ chart-note-requires : (t : ℕ) → chart-lts.Need-note-requires (wide-reads.Ask
 chart-note-requires t c κs = let N = stands-first (c .before .before .before .before .before .before .before .before .args .s .now) (c .before .before .before .before .before .before .before .before .args .at) (c .before .before .before .before .before .before .before .before .args .n) (c .before .before .before .before .before .before .before .before .pre .1 .0 .0) (c .before .before .before .before .before .before .before .before .pre .1 .0 .1) in let R = c .before .before .before .before .before .before .before .before .pre .1 .1 .1 in ((N .1, omega (arith, c .before .before .before .before .before .before .before .before .pre .1 .1 .0), omega arith), (R .action-room, R .scope-room, R .side-room, R .end-room))
 
 chart-ended-requires : (t : ℕ) → chart-lts.Need-ended-requires (wide-reads.Asked, wide-reads.Learnt, note-reads.Asked, note-reads.Learnt, ended-reads.Asked, ended-reads.Learnt, is-done-reads.Asked, is-done-reads.Learnt, both-reads.Asked, both-reads.Learnt, chart-below t, chart.Post, but-not-reads.Asked, but-not-reads.Learnt, seen-reads.Asked, seen-reads.Learnt, channel-of-reads.Asked, channel-of-reads.Learnt, either-reads.Asked, either-reads.Learnt, pick-reads.Asked, pick-reads.Learnt, silence-reads.Asked, silence-reads.Learnt) (chart-at t) chart.Post
-chart-ended-requires t c κs = search needs
+chart-ended-requires t c κs = tt
 
 chart-returns : (t : ℕ) → chart-lts.Need-returns (wide-reads.Asked, wide-reads.Learnt, note-reads.Asked, note-reads.Learnt, ended-reads.Asked, ended-reads.Learnt, is-done-reads.Asked, is-done-reads.Learnt, both-reads.Asked, both-reads.Learnt, chart-below t, chart.Post, but-not-reads.Asked, but-not-reads.Learnt, seen-reads.Asked, seen-reads.Learnt, channel-of-reads.Asked, channel-of-reads.Learnt, either-reads.Asked, either-reads.Learnt, pick-reads.Asked, pick-reads.Learnt, silence-reads.Asked, silence-reads.Learnt) (chart-at t) chart.Post
 chart-returns t c = charts-leaf (c .before .before .before .before .before .before .before .before .before .before .args .s .now) (c .before .before .before .before .before .before .before .before .before .before .args .at) (c .before .before .before .before .before .before .before .before .before .before .args .n) (c .before .before .before .before .before .before .before .wide .result) (c .before .before .before .before .before .before .before .wide .ensures) (c .before .before .before .before .before .before .before .before .before .before .args .live) (c .before .before .before .before .before .before .before .before .before .before .args .side) _ _ _ _ _ _ _ _ _ _ (c .before .before .before .before .before .before .if1 .taken) (c .before .note .ensures) (c .ended .ensures .0) (c .ended .ensures .1) (c .ended .ensures .2)
 
 chart-add-a : (t : ℕ) → chart-lts.Need-add-a (wide-reads.Asked, wide-reads.Learnt, note-reads.Asked, note-reads.Learnt, ended-reads.Asked, ended-reads.Learnt, is-done-reads.Asked, is-done-reads.Learnt, both-reads.Asked, both-reads.Learnt, chart-below t, chart.Post, but-not-reads.Asked, but-not-reads.Learnt, seen-reads.Asked, seen-reads.Learnt, channel-of-reads.Asked, channel-of-reads.Learnt, either-reads.Asked, either-reads.Learnt, pick-reads.Asked, pick-reads.Learnt, silence-reads.Asked, silence-reads.Learnt) (chart-at t) chart.Post
-chart-add-a t c = search needs
+chart-add-a t c = omega arith
 
 chart-shared-slice-read-a : (t : ℕ) → chart-lts.Need-shared-slice-read-a (wide-reads.Asked, wide-reads.Learnt, note-reads.Asked, note-reads.Learnt, ended-reads.Asked, ended-reads.Learnt, is-done-reads.Asked, is-done-reads.Learnt, both-reads.Asked, both-reads.Learnt, chart-below t, chart.Post, but-not-reads.Asked, but-not-reads.Learnt, seen-reads.Asked, seen-reads.Learnt, channel-of-reads.Asked, channel-of-reads.Learnt, either-reads.Asked, either-reads.Learnt, pick-reads.Asked, pick-reads.Learnt, silence-reads.Asked, silence-reads.Learnt) (chart-at t) chart.Post
 chart-shared-slice-read-a t c = omega (arith, prefix-body (c .before .before .before .before .before .before .args .s .now) (c .before .before .before .before .before .before .args .at) (c .before .before .before .before .before .before .args .n) (c .before .before .before .wide .result) (c .before .before .before .wide .ensures) (c .before .before .before .before .before .before .pre .1 .0) (c .before .if2 .taken))
 
 chart-add-is-done : (t : ℕ) → chart-lts.Need-add-is-done (wide-reads.Asked, wide-reads.Learnt, note-reads.Asked, note-reads.Learnt, ended-reads.Asked, ended-reads.Learnt, is-done-reads.Asked, is-done-reads.Learnt, both-reads.Asked, both-reads.Learnt, chart-below t, chart.Post, but-not-reads.Asked, but-not-reads.Learnt, seen-reads.Asked, seen-reads.Learnt, channel-of-reads.Asked, channel-of-reads.Learnt, either-reads.Asked, either-reads.Learnt, pick-reads.Asked, pick-reads.Learnt, silence-reads.Asked, silence-reads.Learnt) (chart-at t) chart.Post
-chart-add-is-done t c = search needs
+chart-add-is-done t c = omega arith
 
 chart-shared-slice-read-is-done : (t : ℕ) → chart-lts.Need-shared-slice-read-is-done (wide-reads.Asked, wide-reads.Learnt, note-reads.Asked, note-reads.Learnt, ended-reads.Asked, ended-reads.Learnt, is-done-reads.Asked, is-done-reads.Learnt, both-reads.Asked, both-reads.Learnt, chart-below t, chart.Post, but-not-reads.Asked, but-not-reads.Learnt, seen-reads.Asked, seen-reads.Learnt, channel-of-reads.Asked, channel-of-reads.Learnt, either-reads.Asked, either-reads.Learnt, pick-reads.Asked, pick-reads.Learnt, silence-reads.Asked, silence-reads.Learnt) (chart-at t) chart.Post
 chart-shared-slice-read-is-done t c = omega (arith, prefix-body (c .before .before .before .before .before .before .before .args .s .now) (c .before .before .before .before .before .before .before .args .at) (c .before .before .before .before .before .before .before .args .n) (c .before .before .before .before .wide .result) (c .before .before .before .before .wide .ensures) (c .before .before .before .before .before .before .before .pre .1 .0) (c .before .before .if2 .taken))
 
 chart-add-is-done-2 : (t : ℕ) → chart-lts.Need-add-is-done-2 (wide-reads.Asked, wide-reads.Learnt, note-reads.Asked, note-reads.Learnt, ended-reads.Asked, ended-reads.Learnt, is-done-reads.Asked, is-done-reads.Learnt, both-reads.Asked, both-reads.Learnt, chart-below t, chart.Post, but-not-reads.Asked, but-not-reads.Learnt, seen-reads.Asked, seen-reads.Learnt, channel-of-reads.Asked, channel-of-reads.Learnt, either-reads.Asked, either-reads.Learnt, pick-reads.Asked, pick-reads.Learnt, silence-reads.Asked, silence-reads.Learnt) (chart-at t) chart.Post
-chart-add-is-done-2 t c = search needs
+chart-add-is-done-2 t c = omega arith
 
 chart-shared-slice-read-is-done-2 : (t : ℕ) → chart-lts.Need-shared-slice-read-is-done-2 (wide-reads.Asked, wide-reads.Learnt, note-reads.Asked, note-reads.Learnt, ended-reads.Asked, ended-reads.Learnt, is-done-reads.Asked, is-done-reads.Learnt, both-reads.Asked, both-reads.Learnt, chart-below t, chart.Post, but-not-reads.Asked, but-not-reads.Learnt, seen-reads.Asked, seen-reads.Learnt, channel-of-reads.Asked, channel-of-reads.Learnt, either-reads.Asked, either-reads.Learnt, pick-reads.Asked, pick-reads.Learnt, silence-reads.Asked, silence-reads.Learnt) (chart-at t) chart.Post
 chart-shared-slice-read-is-done-2 t c = omega (arith, prefix-body (c .before .before .before .before .before .before .before .before .args .s .now) (c .before .before .before .before .before .before .before .before .args .at) (c .before .before .before .before .before .before .before .before .args .n) (c .before .before .before .before .before .wide .result) (c .before .before .before .before .before .wide .ensures) (c .before .before .before .before .before .before .before .before .pre .1 .0) (c .before .before .before .if2 .taken))
 
 chart-is-done-requires : (t : ℕ) → chart-lts.Need-is-done-requires (wide-reads.Asked, wide-reads.Learnt, note-reads.Asked, note-reads.Learnt, ended-reads.Asked, ended-reads.Learnt, is-done-reads.Asked, is-done-reads.Learnt, both-reads.Asked, both-reads.Learnt, chart-below t, chart.Post, but-not-reads.Asked, but-not-reads.Learnt, seen-reads.Asked, seen-reads.Learnt, channel-of-reads.Asked, channel-of-reads.Learnt, either-reads.Asked, either-reads.Learnt, pick-reads.Asked, pick-reads.Learnt, silence-reads.Asked, silence-reads.Learnt) (chart-at t) chart.Post
-chart-is-done-requires t c κs = search needs
+chart-is-done-requires t c κs = tt
 
 chart-both-requires : (t : ℕ) → chart-lts.Need-both-requires (wide-reads.Asked, wide-reads.Learnt, note-reads.Asked, note-reads.Learnt, ended-reads.Asked, ended-reads.Learnt, is-done-reads.Asked, is-done-reads.Learnt, both-reads.Asked, both-reads.Learnt, chart-below t, chart.Post, but-not-reads.Asked, but-not-reads.Learnt, seen-reads.Asked, seen-reads.Learnt, channel-of-reads.Asked, channel-of-reads.Learnt, either-reads.Asked, either-reads.Learnt, pick-reads.Asked, pick-reads.Learnt, silence-reads.Asked, silence-reads.Learnt) (chart-at t) chart.Post
-chart-both-requires t c κs = search needs
+chart-both-requires t c κs = tt
 
 chart-chart-requires : (t : ℕ) → chart-lts.Need-chart-requires (wide-reads.Asked, wide-reads.Learnt, note-reads.Asked, note-reads.Learnt, ended-reads.Asked, ended-reads.Learnt, is-done-reads.Asked, is-done-reads.Learnt, both-reads.Asked, both-reads.Learnt, chart-below t, chart.Post, but-not-reads.Asked, but-not-reads.Learnt, seen-reads.Asked, seen-reads.Learnt, channel-of-reads.Asked, channel-of-reads.Learnt, either-reads.Asked, either-reads.Learnt, pick-reads.Asked, pick-reads.Learnt, silence-reads.Asked, silence-reads.Learnt) (chart-at t) chart.Post
 chart-chart-requires t c κs = let N = stands-first (c .before .before .before .before .before .before .before .before .before .before .before .before .before .before .before .args .s .now) (c .before .before .before .before .before .before .before .before .before .before .before .before .before .before .before .args .at) (c .before .before .before .before .before .before .before .before .before .before .before .before .before .before .before .args .n) (c .before .before .before .before .before .before .before .before .before .before .before .before .before .before .before .pre .1 .0 .0) (c .before .before .before .before .before .before .before .before .before .before .before .before .before .before .before .pre .1 .0 .1) in (omega arith, (first-child (c .before .before .before .before .before .before .before .before .before .before .before .before .before .before .before .args .s .now) (c .before .before .before .before .before .before .before .before .before .before .before .before .before .before .before .args .at) (c .before .before .before .before .before .before .before .before .before .before .before .before .before .before .before .args .n) (c .before .before .before .before .before .before .before .before .before .before .before .before .wide .result) (c .before .before .before .before .before .before .before .before .before .before .before .before .wide .ensures) (c .before .before .before .before .before .before .before .before .before .before .before .before .before .before .before .pre .1 .0) (c .before .before .before .before .before .before .before .before .before .before .before .if1 .left), (omega (arith, c .before .before .before .before .before .before .before .before .before .before .before .before .before .before .before .pre .1 .1 .0), c .before .before .before .before .before .before .before .before .before .before .before .before .before .before .before .pre .1 .1 .1)))
 
 chart-but-not-requires : (t : ℕ) → chart-lts.Need-but-not-requires (wide-reads.Asked, wide-reads.Learnt, note-reads.Asked, note-reads.Learnt, ended-reads.Asked, ended-reads.Learnt, is-done-reads.Asked, is-done-reads.Learnt, both-reads.Asked, both-reads.Learnt, chart-below t, chart.Post, but-not-reads.Asked, but-not-reads.Learnt, seen-reads.Asked, seen-reads.Learnt, channel-of-reads.Asked, channel-of-reads.Learnt, either-reads.Asked, either-reads.Learnt, pick-reads.Asked, pick-reads.Learnt, silence-reads.Asked, silence-reads.Learnt) (chart-at t) chart.Post
-chart-but-not-requires t c κs = search needs
+chart-but-not-requires t c κs = tt
 
 chart-but-not-requires-2 : (t : ℕ) → chart-lts.Need-but-not-requires-2 (wide-reads.Asked, wide-reads.Learnt, note-reads.Asked, note-reads.Learnt, ended-reads.Asked, ended-reads.Learnt, is-done-reads.Asked, is-done-reads.Learnt, both-reads.Asked, both-reads.Learnt, chart-below t, chart.Post, but-not-reads.Asked, but-not-reads.Learnt, seen-reads.Asked, seen-reads.Learnt, channel-of-reads.Asked, channel-of-reads.Learnt, either-reads.Asked, either-reads.Learnt, pick-reads.Asked, pick-reads.Learnt, silence-reads.Asked, silence-reads.Learnt) (chart-at t) chart.Post
-chart-but-not-requires-2 t c κs = search needs
+chart-but-not-requires-2 t c κs = tt
 
 chart-seen-requires : (t : ℕ) → chart-lts.Need-seen-requires (wide-reads.Asked, wide-reads.Learnt, note-reads.Asked, note-reads.Learnt, ended-reads.Asked, ended-reads.Learnt, is-done-reads.Asked, is-done-reads.Learnt, both-reads.Asked, both-reads.Learnt, chart-below t, chart.Post, but-not-reads.Asked, but-not-reads.Learnt, seen-reads.Asked, seen-reads.Learnt, channel-of-reads.Asked, channel-of-reads.Learnt, either-reads.Asked, either-reads.Learnt, pick-reads.Asked, pick-reads.Learnt, silence-reads.Asked, silence-reads.Learnt) (chart-at t) chart.Post
-chart-seen-requires t c κs = search needs
+chart-seen-requires t c κs = tt
 
 chart-channel-of-requires : (t : ℕ) → chart-lts.Need-channel-of-requires (wide-reads.Asked, wide-reads.Learnt, note-reads.Asked, note-reads.Learnt, ended-reads.Asked, ended-reads.Learnt, is-done-reads.Asked, is-done-reads.Learnt, both-reads.Asked, both-reads.Learnt, chart-below t, chart.Post, but-not-reads.Asked, but-not-reads.Learnt, seen-reads.Asked, seen-reads.Learnt, channel-of-reads.Asked, channel-of-reads.Learnt, either-reads.Asked, either-reads.Learnt, pick-reads.Asked, pick-reads.Learnt, silence-reads.Asked, silence-reads.Learnt) (chart-at t) chart.Post
-chart-channel-of-requires t c κs = search needs
+chart-channel-of-requires t c κs = tt
 
 chart-mul-scope : (t : ℕ) → chart-lts.Need-mul-scope (wide-reads.Asked, wide-reads.Learnt, note-reads.Asked, note-reads.Learnt, ended-reads.Asked, ended-reads.Learnt, is-done-reads.Asked, is-done-reads.Learnt, both-reads.Asked, both-reads.Learnt, chart-below t, chart.Post, but-not-reads.Asked, but-not-reads.Learnt, seen-reads.Asked, seen-reads.Learnt, channel-of-reads.Asked, channel-of-reads.Learnt, either-reads.Asked, either-reads.Learnt, pick-reads.Asked, pick-reads.Learnt, silence-reads.Asked, silence-reads.Learnt) (chart-at t) chart.Post
-chart-mul-scope t c = search needs
+chart-mul-scope t c = omega arith
 
 chart-element-copy-out-scope : (t : ℕ) → chart-lts.Need-element-copy-out-scope (wide-reads.Asked, wide-reads.Learnt, note-reads.Asked, note-reads.Learnt, ended-reads.Asked, ended-reads.Learnt, is-done-reads.Asked, is-done-reads.Learnt, both-reads.Asked, both-reads.Learnt, chart-below t, chart.Post, but-not-reads.Asked, but-not-reads.Learnt, seen-reads.Asked, seen-reads.Learnt, channel-of-reads.Asked, channel-of-reads.Learnt, either-reads.Asked, either-reads.Learnt, pick-reads.Asked, pick-reads.Learnt, silence-reads.Asked, silence-reads.Learnt) (chart-at t) chart.Post
-chart-element-copy-out-scope t c = search needs
+chart-element-copy-out-scope t c = omega arith
 
 chart-note-requires-2 : (t : ℕ) → chart-lts.Need-note-requires-2 (wide-reads.Asked, wide-reads.Learnt, note-reads.Asked, note-reads.Learnt, ended-reads.Asked, ended-reads.Learnt, is-done-reads.Asked, is-done-reads.Learnt, both-reads.Asked, both-reads.Learnt, chart-below t, chart.Post, but-not-reads.Asked, but-not-reads.Learnt, seen-reads.Asked, seen-reads.Learnt, channel-of-reads.Asked, channel-of-reads.Learnt, either-reads.Asked, either-reads.Learnt, pick-reads.Asked, pick-reads.Learnt, silence-reads.Asked, silence-reads.Learnt) (chart-at t) chart.Post
 chart-note-requires-2 t c κs = let T = first-child (c .before .before .before .before .before .before .before .before .before .before .before .before .before .before .before .before .before .before .before .before .before .before .before .before .before .args .s .now) (c .before .before .before .before .before .before .before .before .before .before .before .before .before .before .before .before .before .before .before .before .before .before .before .before .before .args .at) (c .before .before .before .before .before .before .before .before .before .before .before .before .before .before .before .before .before .before .before .before .before .before .before .before .before .args .n) (c .before .before .before .before .before .before .before .before .before .before .before .before .before .before .before .before .before .before .before .before .before .before .wide .result) (c .before .before .before .before .before .before .before .before .before .before .before .before .before .before .before .before .before .before .before .before .before .before .wide .ensures) (c .before .before .before .before .before .before .before .before .before .before .before .before .before .before .before .before .before .before .before .before .before .before .before .before .before .pre .1 .0) (c .before .before .before .before .before .before .before .before .before .before .before .before .before .before .before .before .before .before .before .before .before .if1 .left) in let F = after-call T (c .before .before .before .before .before .before .before .before .before .chart .ensures) (c .before .before .before .before .before .before .before .before .before .before .before .before .before .before .before .before .before .before .before .before .before .before .before .before .before .pre .1 .1 .1) in let R = F .2 in ((omega arith, omega (arith, c .before .before .before .before .before .before .before .before .before .before .before .before .before .before .before .before .before .before .before .before .before .before .before .before .before .pre .1 .1 .0), F .0), (R .action-room, R .scope-room, R .side-room, R .end-room))
 
 chart-either-requires : (t : ℕ) → chart-lts.Need-either-requires (wide-reads.Asked, wide-reads.Learnt, note-reads.Asked, note-reads.Learnt, ended-reads.Asked, ended-reads.Learnt, is-done-reads.Asked, is-done-reads.Learnt, both-reads.Asked, both-reads.Learnt, chart-below t, chart.Post, but-not-reads.Asked, but-not-reads.Learnt, seen-reads.Asked, seen-reads.Learnt, channel-of-reads.Asked, channel-of-reads.Learnt, either-reads.Asked, either-reads.Learnt, pick-reads.Asked, pick-reads.Learnt, silence-reads.Asked, silence-reads.Learnt) (chart-at t) chart.Post
-chart-either-requires t c κs = search needs
+chart-either-requires t c κs = tt
 
 chart-ended-requires-2 : (t : ℕ) → chart-lts.Need-ended-requires-2 (wide-reads.Asked, wide-reads.Learnt, note-reads.Asked, note-reads.Learnt, ended-reads.Asked, ended-reads.Learnt, is-done-reads.Asked, is-done-reads.Learnt, both-reads.Asked, both-reads.Learnt, chart-below t, chart.Post, but-not-reads.Asked, but-not-reads.Learnt, seen-reads.Asked, seen-reads.Learnt, channel-of-reads.Asked, channel-of-reads.Learnt, either-reads.Asked, either-reads.Learnt, pick-reads.Asked, pick-reads.Learnt, silence-reads.Asked, silence-reads.Learnt) (chart-at t) chart.Post
-chart-ended-requires-2 t c κs = search needs
+chart-ended-requires-2 t c κs = tt
 
 chart-returns-2 : (t : ℕ) → chart-lts.Need-returns-2 (wide-reads.Asked, wide-reads.Learnt, note-reads.Asked, note-reads.Learnt, ended-reads.Asked, ended-reads.Learnt, is-done-reads.Asked, is-done-reads.Learnt, both-reads.Asked, both-reads.Learnt, chart-below t, chart.Post, but-not-reads.Asked, but-not-reads.Learnt, seen-reads.Asked, seen-reads.Learnt, channel-of-reads.Asked, channel-of-reads.Learnt, either-reads.Asked, either-reads.Learnt, pick-reads.Asked, pick-reads.Learnt, silence-reads.Asked, silence-reads.Learnt) (chart-at t) chart.Post
 chart-returns-2 t c = charts-prefix (c .before .before .before .before .before .before .before .before .before .before .before .before .before .before .before .before .before .before .before .before .before .before .before .before .before .before .before .before .args .s .now) (c .before .before .before .before .before .before .before .before .before .before .before .before .before .before .before .before .before .before .before .before .before .before .before .before .before .before .before .before .args .at) (c .before .before .before .before .before .before .before .before .before .before .before .before .before .before .before .before .before .before .before .before .before .before .before .before .before .before .before .before .args .n) (c .before .before .before .before .before .before .before .before .before .before .before .before .before .before .before .before .before .before .before .before .before .before .before .before .before .wide .result) (c .before .before .before .before .before .before .before .before .before .before .before .before .before .before .before .before .before .before .before .before .before .before .before .before .before .wide .ensures) (c .before .before .before .before .before .before .before .before .before .before .before .before .before .before .before .before .before .before .before .before .before .before .before .before .before .before .before .before .args .live) (c .before .before .before .before .before .before .before .before .before .before .before .before .before .before .before .before .before .before .before .before .before .before .before .before .before .before .before .before .args .side) _ _ _ _ _ _ _ _ _ _ _ _ _ _ (c .before .before .before .before .before .before .before .before .before .before .before .before .chart .result) _ (c .before .before .before .before .before .before .before .before .before .before .before .before .before .before .before .before .before .before .before .is-done .result) (c .before .before .before .before .before .before .before .before .before .before .before .before .before .before .before .before .before .before .both .result) (c .before .before .before .before .before .before .before .before .before .before .before .but-not .result) (c .before .before .before .before .before .before .before .before .before .before .but-not2 .result) (c .before .before .before .before .before .before .before .before .before .seen .result) (c .before .before .before .before .before .before .before .before .channel-of .result) (c .before .before .before .before .before .before .before .before .before .before .before .before .before .before .before .before .before .before .before .before .before .before .before .if2 .taken) (c .before .before .before .before .before .before .before .before .before .before .before .before .before .before .before .before .before .before .before .is-done .ensures) (c .before .before .before .before .before .before .before .before .before .before .before .before .before .before .before .before .before .before .both .ensures) (c .before .before .before .before .before .before .before .before .before .before .before .but-not .ensures) (c .before .before .before .before .before .before .before .before .before .before .but-not2 .ensures) (c .before .before .before .before .before .before .before .before .before .seen .ensures) (c .before .before .before .before .before .before .before .before .channel-of .ensures .0) (c .before .before .before .before .before .before .before .before .before .before .before .before .chart .ensures) (c .before .before .note2 .ensures) (c .ended2 .ensures .0) (c .ended2 .ensures .1) (c .ended2 .ensures .2 ∙ c .before .either .ensures)
@@ -134,13 +133,13 @@ chart-array-read-if3 : (t : ℕ) → chart-lts.Need-array-read-if3 (wide-reads.A
 chart-array-read-if3 t c = omega (arith, kind-known (c .before .before .before .before .before .args .s .now) (c .before .before .before .before .before .args .at) (c .before .before .before .before .before .args .n) (c .before .before .wide .result) (c .before .before .wide .ensures) (c .before .before .before .before .before .pre .1 .0))
 
 chart-add-wide : (t : ℕ) → chart-lts.Need-add-wide (wide-reads.Asked, wide-reads.Learnt, note-reads.Asked, note-reads.Learnt, ended-reads.Asked, ended-reads.Learnt, is-done-reads.Asked, is-done-reads.Learnt, both-reads.Asked, both-reads.Learnt, chart-below t, chart.Post, but-not-reads.Asked, but-not-reads.Learnt, seen-reads.Asked, seen-reads.Learnt, channel-of-reads.Asked, channel-of-reads.Learnt, either-reads.Asked, either-reads.Learnt, pick-reads.Asked, pick-reads.Learnt, silence-reads.Asked, silence-reads.Learnt) (chart-at t) chart.Post
-chart-add-wide t c = search needs
+chart-add-wide t c = omega arith
 
 chart-shared-slice-read-wide-2 : (t : ℕ) → chart-lts.Need-shared-slice-read-wide-2 (wide-reads.Asked, wide-reads.Learnt, note-reads.Asked, note-reads.Learnt, ended-reads.Asked, ended-reads.Learnt, is-done-reads.Asked, is-done-reads.Learnt, both-reads.Asked, both-reads.Learnt, chart-below t, chart.Post, but-not-reads.Asked, but-not-reads.Learnt, seen-reads.Asked, seen-reads.Learnt, channel-of-reads.Asked, channel-of-reads.Learnt, either-reads.Asked, either-reads.Learnt, pick-reads.Asked, pick-reads.Learnt, silence-reads.Asked, silence-reads.Learnt) (chart-at t) chart.Post
 chart-shared-slice-read-wide-2 t c = omega (arith, name-there (c .before .before .before .before .before .before .before .args .s .now) (c .before .before .before .before .before .before .before .args .at) (c .before .before .before .before .before .before .before .args .n) (c .before .before .before .before .wide .result) (c .before .before .before .before .wide .ensures) (c .before .before .before .before .before .before .before .pre .1 .0) (c .before .before .if2 .left) (c .before .if3 .taken))
 
 chart-wide-requires-2 : (t : ℕ) → chart-lts.Need-wide-requires-2 (wide-reads.Asked, wide-reads.Learnt, note-reads.Asked, note-reads.Learnt, ended-reads.Asked, ended-reads.Learnt, is-done-reads.Asked, is-done-reads.Learnt, both-reads.Asked, both-reads.Learnt, chart-below t, chart.Post, but-not-reads.Asked, but-not-reads.Learnt, seen-reads.Asked, seen-reads.Learnt, channel-of-reads.Asked, channel-of-reads.Learnt, either-reads.Asked, either-reads.Learnt, pick-reads.Asked, pick-reads.Learnt, silence-reads.Asked, silence-reads.Learnt) (chart-at t) chart.Post
-chart-wide-requires-2 t c κs = search needs
+chart-wide-requires-2 t c κs = tt
 
 chart-mul-outer : (t : ℕ) → chart-lts.Need-mul-outer (wide-reads.Asked, wide-reads.Learnt, note-reads.Asked, note-reads.Learnt, ended-reads.Asked, ended-reads.Learnt, is-done-reads.Asked, is-done-reads.Learnt, both-reads.Asked, both-reads.Learnt, chart-below t, chart.Post, but-not-reads.Asked, but-not-reads.Learnt, seen-reads.Asked, seen-reads.Learnt, channel-of-reads.Asked, channel-of-reads.Learnt, either-reads.Asked, either-reads.Learnt, pick-reads.Asked, pick-reads.Learnt, silence-reads.Asked, silence-reads.Learnt) (chart-at t) chart.Post
 chart-mul-outer t c = omega (arith, name-there (c .before .before .before .before .before .before .before .before .args .s .now) (c .before .before .before .before .before .before .before .before .args .at) (c .before .before .before .before .before .before .before .before .args .n) (c .before .before .before .before .before .wide .result) (c .before .before .before .before .before .wide .ensures) (c .before .before .before .before .before .before .before .before .pre .1 .0) (c .before .before .before .if2 .left) (c .before .before .if3 .taken), c .wide2 .ensures)
@@ -149,7 +148,7 @@ chart-element-copy-out-outer : (t : ℕ) → chart-lts.Need-element-copy-out-out
 chart-element-copy-out-outer t c = omega (arith, name-there (c .before .before .before .before .before .before .before .before .args .s .now) (c .before .before .before .before .before .before .before .before .args .at) (c .before .before .before .before .before .before .before .before .args .n) (c .before .before .before .before .before .wide .result) (c .before .before .before .before .before .wide .ensures) (c .before .before .before .before .before .before .before .before .pre .1 .0) (c .before .before .before .if2 .left) (c .before .before .if3 .taken), c .wide2 .ensures)
 
 chart-cast-table : (t : ℕ) → chart-lts.Need-cast-table (wide-reads.Asked, wide-reads.Learnt, note-reads.Asked, note-reads.Learnt, ended-reads.Asked, ended-reads.Learnt, is-done-reads.Asked, is-done-reads.Learnt, both-reads.Asked, both-reads.Learnt, chart-below t, chart.Post, but-not-reads.Asked, but-not-reads.Learnt, seen-reads.Asked, seen-reads.Learnt, channel-of-reads.Asked, channel-of-reads.Learnt, either-reads.Asked, either-reads.Learnt, pick-reads.Asked, pick-reads.Learnt, silence-reads.Asked, silence-reads.Learnt) (chart-at t) chart.Post
-chart-cast-table t c = search needs
+chart-cast-table t c = omega arith
 
 chart-mul-table : (t : ℕ) → chart-lts.Need-mul-table (wide-reads.Asked, wide-reads.Learnt, note-reads.Asked, note-reads.Learnt, ended-reads.Asked, ended-reads.Learnt, is-done-reads.Asked, is-done-reads.Learnt, both-reads.Asked, both-reads.Learnt, chart-below t, chart.Post, but-not-reads.Asked, but-not-reads.Learnt, seen-reads.Asked, seen-reads.Learnt, channel-of-reads.Asked, channel-of-reads.Learnt, either-reads.Asked, either-reads.Learnt, pick-reads.Asked, pick-reads.Learnt, silence-reads.Asked, silence-reads.Learnt) (chart-at t) chart.Post
 chart-mul-table t c = omega (arith, name-there (c .before .before .before .before .before .before .before .before .before .args .s .now) (c .before .before .before .before .before .before .before .before .before .args .at) (c .before .before .before .before .before .before .before .before .before .args .n) (c .before .before .before .before .before .before .wide .result) (c .before .before .before .before .before .before .wide .ensures) (c .before .before .before .before .before .before .before .before .before .pre .1 .0) (c .before .before .before .before .if2 .left) (c .before .before .before .if3 .taken), c .before .wide2 .ensures)
@@ -173,25 +172,25 @@ chart-returns-3 : (t : ℕ) → chart-lts.Need-returns-3 (wide-reads.Asked, wide
 chart-returns-3 t c = charts-restriction (c .before .before .before .before .before .before .before .before .before .before .before .before .before .before .before .before .before .before .before .before .args .s .now) (c .before .before .before .before .before .before .before .before .before .before .before .before .before .before .before .before .before .before .before .before .args .at) (c .before .before .before .before .before .before .before .before .before .before .before .before .before .before .before .before .before .before .before .before .args .n) (c .before .before .before .before .before .before .before .before .before .before .before .before .before .before .before .before .before .wide .result) (c .before .before .before .before .before .before .before .before .before .before .before .before .before .before .before .before .before .wide .ensures) (c .before .before .before .before .before .before .before .before .before .before .before .before .before .before .before .before .before .before .before .before .args .live) (c .before .before .before .before .before .before .before .before .before .before .before .before .before .before .before .before .before .before .before .before .args .side) _ _ _ _ _ _ _ _ _ _ _ _ _ _ (c .before .before .before .before .before .chart2 .result) _ (c .before .before .before .before .before .before .before .before .before .before .before .before .wide2 .result) _ (c .before .before .before .before .before .before .before .before .before .before .before .before .before .before .before .if2 .left) (c .before .before .before .before .before .before .before .before .before .before .before .before .before .before .if3 .taken) (c .before .before .before .before .before .before .before .before .before .before .before .before .wide2 .ensures) (c .before .before .before .before .before .chart2 .ensures) refl (c .note3 .ensures) refl
 
 chart-pick-requires : (t : ℕ) → chart-lts.Need-pick-requires (wide-reads.Asked, wide-reads.Learnt, note-reads.Asked, note-reads.Learnt, ended-reads.Asked, ended-reads.Learnt, is-done-reads.Asked, is-done-reads.Learnt, both-reads.Asked, both-reads.Learnt, chart-below t, chart.Post, but-not-reads.Asked, but-not-reads.Learnt, seen-reads.Asked, seen-reads.Learnt, channel-of-reads.Asked, channel-of-reads.Learnt, either-reads.Asked, either-reads.Learnt, pick-reads.Asked, pick-reads.Learnt, silence-reads.Asked, silence-reads.Learnt) (chart-at t) chart.Post
-chart-pick-requires t c κs = search needs
+chart-pick-requires t c κs = tt
 
 chart-chart-requires-3 : (t : ℕ) → chart-lts.Need-chart-requires-3 (wide-reads.Asked, wide-reads.Learnt, note-reads.Asked, note-reads.Learnt, ended-reads.Asked, ended-reads.Learnt, is-done-reads.Asked, is-done-reads.Learnt, both-reads.Asked, both-reads.Learnt, chart-below t, chart.Post, but-not-reads.Asked, but-not-reads.Learnt, seen-reads.Asked, seen-reads.Learnt, channel-of-reads.Asked, channel-of-reads.Learnt, either-reads.Asked, either-reads.Learnt, pick-reads.Asked, pick-reads.Learnt, silence-reads.Asked, silence-reads.Learnt) (chart-at t) chart.Post
 chart-chart-requires-3 t c κs = let N = stands-first (c .before .before .before .before .before .before .before .before .before .before .before .before .args .s .now) (c .before .before .before .before .before .before .before .before .before .before .before .before .args .at) (c .before .before .before .before .before .before .before .before .before .before .before .before .args .n) (c .before .before .before .before .before .before .before .before .before .before .before .before .pre .1 .0 .0) (c .before .before .before .before .before .before .before .before .before .before .before .before .pre .1 .0 .1) in (omega arith, (first-child (c .before .before .before .before .before .before .before .before .before .before .before .before .args .s .now) (c .before .before .before .before .before .before .before .before .before .before .before .before .args .at) (c .before .before .before .before .before .before .before .before .before .before .before .before .args .n) (c .before .before .before .before .before .before .before .before .before .wide .result) (c .before .before .before .before .before .before .before .before .before .wide .ensures) (c .before .before .before .before .before .before .before .before .before .before .before .before .pre .1 .0) (c .before .before .before .before .before .before .before .before .if1 .left), (pick-le (eqb (c .before .before .before .before .before .before .before .before .before .wide .result) 2) (c .before .before .before .before .before .before .before .before .before .before .before .before .args .n + 1) (c .before .before .before .before .before .before .before .before .before .before .before .before .args .side) (c .before .before .before .before .before .before .before .before .before .before .before .before .args .n + 1) (c .before .before .before .before .before .pick .result) (c .before .before .before .before .before .pick .ensures) (omega arith) (omega (arith, c .before .before .before .before .before .before .before .before .before .before .before .before .pre .1 .1 .0)), c .before .before .before .before .before .before .before .before .before .before .before .before .pre .1 .1 .1)))
 
 chart-both-requires-2 : (t : ℕ) → chart-lts.Need-both-requires-2 (wide-reads.Asked, wide-reads.Learnt, note-reads.Asked, note-reads.Learnt, ended-reads.Asked, ended-reads.Learnt, is-done-reads.Asked, is-done-reads.Learnt, both-reads.Asked, both-reads.Learnt, chart-below t, chart.Post, but-not-reads.Asked, but-not-reads.Learnt, seen-reads.Asked, seen-reads.Learnt, channel-of-reads.Asked, channel-of-reads.Learnt, either-reads.Asked, either-reads.Learnt, pick-reads.Asked, pick-reads.Learnt, silence-reads.Asked, silence-reads.Learnt) (chart-at t) chart.Post
-chart-both-requires-2 t c κs = search needs
+chart-both-requires-2 t c κs = tt
 
 chart-but-not-requires-3 : (t : ℕ) → chart-lts.Need-but-not-requires-3 (wide-reads.Asked, wide-reads.Learnt, note-reads.Asked, note-reads.Learnt, ended-reads.Asked, ended-reads.Learnt, is-done-reads.Asked, is-done-reads.Learnt, both-reads.Asked, both-reads.Learnt, chart-below t, chart.Post, but-not-reads.Asked, but-not-reads.Learnt, seen-reads.Asked, seen-reads.Learnt, channel-of-reads.Asked, channel-of-reads.Learnt, either-reads.Asked, either-reads.Learnt, pick-reads.Asked, pick-reads.Learnt, silence-reads.Asked, silence-reads.Learnt) (chart-at t) chart.Post
-chart-but-not-requires-3 t c κs = search needs
+chart-but-not-requires-3 t c κs = tt
 
 chart-chart-requires-4 : (t : ℕ) → chart-lts.Need-chart-requires-4 (wide-reads.Asked, wide-reads.Learnt, note-reads.Asked, note-reads.Learnt, ended-reads.Asked, ended-reads.Learnt, is-done-reads.Asked, is-done-reads.Learnt, both-reads.Asked, both-reads.Learnt, chart-below t, chart.Post, but-not-reads.Asked, but-not-reads.Learnt, seen-reads.Asked, seen-reads.Learnt, channel-of-reads.Asked, channel-of-reads.Learnt, either-reads.Asked, either-reads.Learnt, pick-reads.Asked, pick-reads.Learnt, silence-reads.Asked, silence-reads.Learnt) (chart-at t) chart.Post
 chart-chart-requires-4 t c κs = let N = stands-first (c .before .before .before .before .before .before .before .before .before .before .before .before .before .before .before .before .before .before .before .before .args .s .now) (c .before .before .before .before .before .before .before .before .before .before .before .before .before .before .before .before .before .before .before .before .args .at) (c .before .before .before .before .before .before .before .before .before .before .before .before .before .before .before .before .before .before .before .before .args .n) (c .before .before .before .before .before .before .before .before .before .before .before .before .before .before .before .before .before .before .before .before .pre .1 .0 .0) (c .before .before .before .before .before .before .before .before .before .before .before .before .before .before .before .before .before .before .before .before .pre .1 .0 .1) in let F = after-call (first-child (c .before .before .before .before .before .before .before .before .before .before .before .before .before .before .before .before .before .before .before .before .args .s .now) (c .before .before .before .before .before .before .before .before .before .before .before .before .before .before .before .before .before .before .before .before .args .at) (c .before .before .before .before .before .before .before .before .before .before .before .before .before .before .before .before .before .before .before .before .args .n) (c .before .before .before .before .before .before .before .before .before .before .before .before .before .before .before .before .before .wide .result) (c .before .before .before .before .before .before .before .before .before .before .before .before .before .before .before .before .before .wide .ensures) (c .before .before .before .before .before .before .before .before .before .before .before .before .before .before .before .before .before .before .before .before .pre .1 .0) (c .before .before .before .before .before .before .before .before .before .before .before .before .before .before .before .before .if1 .left)) (c .before .before .before .before .before .before .before .chart3 .ensures) (c .before .before .before .before .before .before .before .before .before .before .before .before .before .before .before .before .before .before .before .before .pre .1 .1 .1) in let U = second-child (c .before .before .before .before .before .before .before .before .before .before .before .before .before .before .before .before .before .before .before .before .args .s .now) (c .before .before .before .before .before .before .before .before .before .before .before .before .before .before .before .before .before .before .before .before .args .at) (c .before .before .before .before .before .before .before .before .before .before .before .before .before .before .before .before .before .before .before .before .args .n) (c .before .before .before .before .before .before .before .before .before .before .before .before .before .before .before .before .before .wide .result) (c .before .before .before .before .before .before .before .before .before .before .before .before .before .before .before .before .before .wide .ensures) (c .before .before .before .before .before .before .before .before .before .before .before .before .before .before .before .before .before .before .before .before .pre .1 .0) (c .before .before .before .before .before .before .before .before .before .before .before .before .before .before .before .before .if1 .left) (c .before .before .before .before .before .before .before .before .before .before .before .before .before .before .before .if2 .left) (c .before .before .before .before .before .before .before .before .before .before .before .before .before .before .if3 .left) (c .before .before .before .before .before .before .before .chart3 .result .next) (c .before .before .before .before .before .before .before .chart3 .result .end) (λ u U. let F = c .before .before .before .before .before .before .before .chart3 .ensures u U in (F .next-is, F .end-is)) in (omega arith, (U .0, (omega (arith, c .before .before .before .before .before .before .before .before .before .before .before .before .before .before .before .before .before .before .before .before .pre .1 .1 .0), F .2)))
 
 chart-both-requires-3 : (t : ℕ) → chart-lts.Need-both-requires-3 (wide-reads.Asked, wide-reads.Learnt, note-reads.Asked, note-reads.Learnt, ended-reads.Asked, ended-reads.Learnt, is-done-reads.Asked, is-done-reads.Learnt, both-reads.Asked, both-reads.Learnt, chart-below t, chart.Post, but-not-reads.Asked, but-not-reads.Learnt, seen-reads.Asked, seen-reads.Learnt, channel-of-reads.Asked, channel-of-reads.Learnt, either-reads.Asked, either-reads.Learnt, pick-reads.Asked, pick-reads.Learnt, silence-reads.Asked, silence-reads.Learnt) (chart-at t) chart.Post
-chart-both-requires-3 t c κs = search needs
+chart-both-requires-3 t c κs = tt
 
 chart-pick-requires-2 : (t : ℕ) → chart-lts.Need-pick-requires-2 (wide-reads.Asked, wide-reads.Learnt, note-reads.Asked, note-reads.Learnt, ended-reads.Asked, ended-reads.Learnt, is-done-reads.Asked, is-done-reads.Learnt, both-reads.Asked, both-reads.Learnt, chart-below t, chart.Post, but-not-reads.Asked, but-not-reads.Learnt, seen-reads.Asked, seen-reads.Learnt, channel-of-reads.Asked, channel-of-reads.Learnt, either-reads.Asked, either-reads.Learnt, pick-reads.Asked, pick-reads.Learnt, silence-reads.Asked, silence-reads.Learnt) (chart-at t) chart.Post
-chart-pick-requires-2 t c κs = search needs
+chart-pick-requires-2 t c κs = tt
 
 chart-silence-requires : (t : ℕ) → chart-lts.Need-silence-requires (wide-reads.Asked, wide-reads.Learnt, note-reads.Asked, note-reads.Learnt, ended-reads.Asked, ended-reads.Learnt, is-done-reads.Asked, is-done-reads.Learnt, both-reads.Asked, both-reads.Learnt, chart-below t, chart.Post, but-not-reads.Asked, but-not-reads.Learnt, seen-reads.Asked, seen-reads.Learnt, channel-of-reads.Asked, channel-of-reads.Learnt, either-reads.Asked, either-reads.Learnt, pick-reads.Asked, pick-reads.Learnt, silence-reads.Asked, silence-reads.Learnt) (chart-at t) chart.Post
 chart-silence-requires t c κs = let F = after-call (first-child (c .before .before .before .before .before .before .before .before .before .before .before .before .before .before .before .before .before .before .before .before .before .before .before .before .args .s .now) (c .before .before .before .before .before .before .before .before .before .before .before .before .before .before .before .before .before .before .before .before .before .before .before .before .args .at) (c .before .before .before .before .before .before .before .before .before .before .before .before .before .before .before .before .before .before .before .before .before .before .before .before .args .n) (c .before .before .before .before .before .before .before .before .before .before .before .before .before .before .before .before .before .before .before .before .before .wide .result) (c .before .before .before .before .before .before .before .before .before .before .before .before .before .before .before .before .before .before .before .before .before .wide .ensures) (c .before .before .before .before .before .before .before .before .before .before .before .before .before .before .before .before .before .before .before .before .before .before .before .before .pre .1 .0) (c .before .before .before .before .before .before .before .before .before .before .before .before .before .before .before .before .before .before .before .before .if1 .left)) (c .before .before .before .before .before .before .before .before .before .before .before .chart3 .ensures) (c .before .before .before .before .before .before .before .before .before .before .before .before .before .before .before .before .before .before .before .before .before .before .before .before .pre .1 .1 .1) in let U = second-child (c .before .before .before .before .before .before .before .before .before .before .before .before .before .before .before .before .before .before .before .before .before .before .before .before .args .s .now) (c .before .before .before .before .before .before .before .before .before .before .before .before .before .before .before .before .before .before .before .before .before .before .before .before .args .at) (c .before .before .before .before .before .before .before .before .before .before .before .before .before .before .before .before .before .before .before .before .before .before .before .before .args .n) (c .before .before .before .before .before .before .before .before .before .before .before .before .before .before .before .before .before .before .before .before .before .wide .result) (c .before .before .before .before .before .before .before .before .before .before .before .before .before .before .before .before .before .before .before .before .before .wide .ensures) (c .before .before .before .before .before .before .before .before .before .before .before .before .before .before .before .before .before .before .before .before .before .before .before .before .pre .1 .0) (c .before .before .before .before .before .before .before .before .before .before .before .before .before .before .before .before .before .before .before .before .if1 .left) (c .before .before .before .before .before .before .before .before .before .before .before .before .before .before .before .before .before .before .before .if2 .left) (c .before .before .before .before .before .before .before .before .before .before .before .before .before .before .before .before .before .before .if3 .left) (c .before .before .before .before .before .before .before .before .before .before .before .chart3 .result .next) (c .before .before .before .before .before .before .before .before .before .before .before .chart3 .result .end) (λ u U. let F = c .before .before .before .before .before .before .before .before .before .before .before .chart3 .ensures u U in (F .next-is, F .end-is)) in let G = after-call (U .0) (c .before .before .before .chart4 .ensures) (F .2) in (G .2 .action-room, pick-ge (c .before .both3 .result) (c .before .before .before .before .before .before .before .before .before .before .before .chart3 .result .end) (c .before .before .before .before .before .before .before .before .before .before .before .before .before .before .before .before .before .before .before .before .before .before .before .before .args .n + 1) (c .before .before .before .before .before .before .before .before .before .before .before .before .before .before .before .before .before .before .before .before .before .before .before .before .args .n + 1) (c .pick2 .result) (c .pick2 .ensures) (F .1) (omega arith), pick-le (c .before .both3 .result) (c .before .before .before .before .before .before .before .before .before .before .before .chart3 .result .end) (c .before .before .before .before .before .before .before .before .before .before .before .before .before .before .before .before .before .before .before .before .before .before .before .before .args .n + 1) 4096 (c .pick2 .result) (c .pick2 .ensures) (F .0) (omega arith))
@@ -200,10 +199,10 @@ chart-note-requires-4 : (t : ℕ) → chart-lts.Need-note-requires-4 (wide-reads
 chart-note-requires-4 t c κs = let F = after-call (first-child (c .before .before .before .before .before .before .before .before .before .before .before .before .before .before .before .before .before .before .before .before .before .before .before .before .before .before .before .before .before .args .s .now) (c .before .before .before .before .before .before .before .before .before .before .before .before .before .before .before .before .before .before .before .before .before .before .before .before .before .before .before .before .before .args .at) (c .before .before .before .before .before .before .before .before .before .before .before .before .before .before .before .before .before .before .before .before .before .before .before .before .before .before .before .before .before .args .n) (c .before .before .before .before .before .before .before .before .before .before .before .before .before .before .before .before .before .before .before .before .before .before .before .before .before .before .wide .result) (c .before .before .before .before .before .before .before .before .before .before .before .before .before .before .before .before .before .before .before .before .before .before .before .before .before .before .wide .ensures) (c .before .before .before .before .before .before .before .before .before .before .before .before .before .before .before .before .before .before .before .before .before .before .before .before .before .before .before .before .before .pre .1 .0) (c .before .before .before .before .before .before .before .before .before .before .before .before .before .before .before .before .before .before .before .before .before .before .before .before .before .if1 .left)) (c .before .before .before .before .before .before .before .before .before .before .before .before .before .before .before .before .chart3 .ensures) (c .before .before .before .before .before .before .before .before .before .before .before .before .before .before .before .before .before .before .before .before .before .before .before .before .before .before .before .before .before .pre .1 .1 .1) in let U = second-child (c .before .before .before .before .before .before .before .before .before .before .before .before .before .before .before .before .before .before .before .before .before .before .before .before .before .before .before .before .before .args .s .now) (c .before .before .before .before .before .before .before .before .before .before .before .before .before .before .before .before .before .before .before .before .before .before .before .before .before .before .before .before .before .args .at) (c .before .before .before .before .before .before .before .before .before .before .before .before .before .before .before .before .before .before .before .before .before .before .before .before .before .before .before .before .before .args .n) (c .before .before .before .before .before .before .before .before .before .before .before .before .before .before .before .before .before .before .before .before .before .before .before .before .before .before .wide .result) (c .before .before .before .before .before .before .before .before .before .before .before .before .before .before .before .before .before .before .before .before .before .before .before .before .before .before .wide .ensures) (c .before .before .before .before .before .before .before .before .before .before .before .before .before .before .before .before .before .before .before .before .before .before .before .before .before .before .before .before .before .pre .1 .0) (c .before .before .before .before .before .before .before .before .before .before .before .before .before .before .before .before .before .before .before .before .before .before .before .before .before .if1 .left) (c .before .before .before .before .before .before .before .before .before .before .before .before .before .before .before .before .before .before .before .before .before .before .before .before .if2 .left) (c .before .before .before .before .before .before .before .before .before .before .before .before .before .before .before .before .before .before .before .before .before .before .before .if3 .left) (c .before .before .before .before .before .before .before .before .before .before .before .before .before .before .before .before .chart3 .result .next) (c .before .before .before .before .before .before .before .before .before .before .before .before .before .before .before .before .chart3 .result .end) (λ u U. let F = c .before .before .before .before .before .before .before .before .before .before .before .before .before .before .before .before .chart3 .ensures u U in (F .next-is, F .end-is)) in let G = after-call (U .0) (c .before .before .before .before .before .before .before .before .chart4 .ensures) (F .2) in let R = G .2 in ((omega arith, omega (arith, c .before .before .before .before .before .before .before .before .before .before .before .before .before .before .before .before .before .before .before .before .before .before .before .before .before .before .before .before .before .pre .1 .1 .0), G .0), (c .before .before .before .before .silence .ensures .1, R .scope-room, R .side-room, R .end-room))
 
 chart-either-requires-2 : (t : ℕ) → chart-lts.Need-either-requires-2 (wide-reads.Asked, wide-reads.Learnt, note-reads.Asked, note-reads.Learnt, ended-reads.Asked, ended-reads.Learnt, is-done-reads.Asked, is-done-reads.Learnt, both-reads.Asked, both-reads.Learnt, chart-below t, chart.Post, but-not-reads.Asked, but-not-reads.Learnt, seen-reads.Asked, seen-reads.Learnt, channel-of-reads.Asked, channel-of-reads.Learnt, either-reads.Asked, either-reads.Learnt, pick-reads.Asked, pick-reads.Learnt, silence-reads.Asked, silence-reads.Learnt) (chart-at t) chart.Post
-chart-either-requires-2 t c κs = search needs
+chart-either-requires-2 t c κs = tt
 
 chart-ended-requires-3 : (t : ℕ) → chart-lts.Need-ended-requires-3 (wide-reads.Asked, wide-reads.Learnt, note-reads.Asked, note-reads.Learnt, ended-reads.Asked, ended-reads.Learnt, is-done-reads.Asked, is-done-reads.Learnt, both-reads.Asked, both-reads.Learnt, chart-below t, chart.Post, but-not-reads.Asked, but-not-reads.Learnt, seen-reads.Asked, seen-reads.Learnt, channel-of-reads.Asked, channel-of-reads.Learnt, either-reads.Asked, either-reads.Learnt, pick-reads.Asked, pick-reads.Learnt, silence-reads.Asked, silence-reads.Learnt) (chart-at t) chart.Post
-chart-ended-requires-3 t c κs = search needs
+chart-ended-requires-3 t c κs = tt
 
 chart-returns-4 : (t : ℕ) → chart-lts.Need-returns-4 (wide-reads.Asked, wide-reads.Learnt, note-reads.Asked, note-reads.Learnt, ended-reads.Asked, ended-reads.Learnt, is-done-reads.Asked, is-done-reads.Learnt, both-reads.Asked, both-reads.Learnt, chart-below t, chart.Post, but-not-reads.Asked, but-not-reads.Learnt, seen-reads.Asked, seen-reads.Learnt, channel-of-reads.Asked, channel-of-reads.Learnt, either-reads.Asked, either-reads.Learnt, pick-reads.Asked, pick-reads.Learnt, silence-reads.Asked, silence-reads.Learnt) (chart-at t) chart.Post
 chart-returns-4 t c = charts-two (c .before .before .before .before .before .before .before .before .before .before .before .before .before .before .before .before .before .before .before .before .before .before .before .before .before .before .before .before .before .before .before .before .args .s .now) (c .before .before .before .before .before .before .before .before .before .before .before .before .before .before .before .before .before .before .before .before .before .before .before .before .before .before .before .before .before .before .before .before .args .at) (c .before .before .before .before .before .before .before .before .before .before .before .before .before .before .before .before .before .before .before .before .before .before .before .before .before .before .before .before .before .before .before .before .args .n) (c .before .before .before .before .before .before .before .before .before .before .before .before .before .before .before .before .before .before .before .before .before .before .before .before .before .before .before .before .before .wide .result) (c .before .before .before .before .before .before .before .before .before .before .before .before .before .before .before .before .before .before .before .before .before .before .before .before .before .before .before .before .before .wide .ensures) (c .before .before .before .before .before .before .before .before .before .before .before .before .before .before .before .before .before .before .before .before .before .before .before .before .before .before .before .before .before .before .before .before .args .live) (c .before .before .before .before .before .before .before .before .before .before .before .before .before .before .before .before .before .before .before .before .before .before .before .before .before .before .before .before .before .before .before .before .args .side) _ _ _ _ _ _ _ _ _ _ _ _ _ _ _ _ _ _ _ _ (c .before .before .before .before .before .before .before .before .before .before .before .before .before .before .before .before .before .before .before .chart3 .result) (c .before .before .before .before .before .before .before .before .before .before .before .chart4 .result) _ _ (c .before .before .before .before .before .before .before .before .before .before .before .before .before .before .before .before .before .before .both2 .result) (c .before .before .before .before .before .before .before .before .before .before .before .before .before .before .before .before .before .but-not3 .result) (c .before .before .before .before .before .before .before .before .before .both3 .result) (c .before .before .before .before .before .before .before .before .before .before .before .before .before .before .before .before .before .before .before .before .before .before .before .before .before .pick .result) (c .before .before .before .before .before .before .before .before .pick2 .result) (c .before .before .before .before .before .before .before .before .before .before .before .before .before .before .before .before .before .before .before .before .before .before .before .before .before .before .before .before .if1 .left) (c .before .before .before .before .before .before .before .before .before .before .before .before .before .before .before .before .before .before .before .before .before .before .before .before .before .before .before .if2 .left) (c .before .before .before .before .before .before .before .before .before .before .before .before .before .before .before .before .before .before .before .before .before .before .before .before .before .before .if3 .left) refl (c .before .before .before .before .before .before .before .before .before .before .before .before .before .before .before .before .before .before .before .before .before .before .before .before .before .pick .ensures) (c .before .before .before .before .before .before .before .before .before .before .before .before .before .before .before .before .before .before .both2 .ensures) (c .before .before .before .before .before .before .before .before .before .before .before .before .before .before .before .before .before .but-not3 .ensures) (c .before .before .before .before .before .before .before .before .before .both3 .ensures) (c .before .before .before .before .before .before .before .before .pick2 .ensures) (c .before .before .before .before .before .before .before .before .before .before .before .before .before .before .before .before .before .before .before .chart3 .ensures) (c .before .before .before .before .before .before .before .before .before .before .before .chart4 .ensures) (c .before .before .before .before .before .before .before .silence .ensures .0) (c .before .before .note4 .ensures) (c .ended3 .ensures .0) (c .ended3 .ensures .1) (c .ended3 .ensures .2 ∙ c .before .either2 .ensures)

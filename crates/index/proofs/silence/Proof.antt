@@ -1,7 +1,7 @@
 -- `silence` meets its contract: each turn makes the run of stores one longer.
 use borrow.Author.Needs.{needs}
 use native.Mathlib.Omega.{arith}
-use mathlib.Core.Path.{_≡_, refl, _∙_}
+use mathlib.Core.Path.{_≡_}
 use Prim.Native.Nat.{_≤_, _-_}
 use lib.ListN.{length, replicate, length-set}
 use lib.Seq.{sets}

@@ -1,5 +1,4 @@
 -- `agree` meets its contract: one law of Parts at each return.
-use borrow.Author.Needs.{needs}
 use Rattle.search.proofs.Parts.{agree-none, agree-not, agree-same}
 use Rattle.search.proofs.agree.Statement.{statement}
 use Rattle.search.proofs.agree.Tie as tie

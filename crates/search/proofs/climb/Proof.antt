@@ -1,7 +1,7 @@
 -- `climb` meets its contract: each side on the way up is barred from the same nodes, from q on.
 use borrow.Author.Needs.{needs}
 use native.Mathlib.Omega.{arith}
-use mathlib.Core.Path.{_≡_, refl, sym, subst, _∙_}
+use mathlib.Core.Path.{refl, subst}
 use mathlib.Core.Logic.{inl, inr}
 use Prim.Native.Nat.{_-_}
 use Rattle.search.proofs.Parts.{SoFar, so-far-start, so-far-up, climbed}

@@ -1,5 +1,4 @@
 -- `is_alone` meets its contract: the second test decides where the first succeeds.
-use borrow.Author.Needs.{needs}
 use Rattle.search.proofs.Parts.{alone-test, alone-not}
 use Rattle.search.proofs.is_alone.Statement.{statement}
 use Rattle.search.proofs.is_alone.Tie as tie

@@ -1,9 +1,5 @@
 -- `is_clear` meets its contract: only the second side of the side's own choice can hold q.
 use borrow.Author.Needs.{needs}
-use mathlib.Core.Path.{subst}
-use lib.Dec.{ltb}
-use Prim.Native.Nat.{ℕ}
-use Rattle.search.specs.Scan.{Clear}
 use Rattle.search.proofs.Parts.{clear-none, clear-side}
 use Rattle.search.proofs.is_clear.Statement.{statement}
 use Rattle.search.proofs.is_clear.Tie as tie

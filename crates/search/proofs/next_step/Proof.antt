@@ -2,9 +2,9 @@
 use borrow.Author.Needs.{needs}
 use native.Mathlib.Omega.{arith}
 use mathlib.Core.Path.{_≡_, refl, sym, _∙_}
-use mathlib.Core.Logic.{inl, inr, ⊎-elim}
+use mathlib.Core.Logic.{inr, ⊎-elim}
 use mathlib.Core.Bool.{true≢false}
-use Prim.Native.Nat.{_+_, _-_, _≤_}
+use Prim.Native.Nat.{_-_, _≤_}
 use Rattle.search.proofs.Reached.{Reached, Passed, Above, above-start, above-on, reached-start, reached-skip, reached-row, reached-pairs, reached-pass, passed-more, no-partner, above-more, barred-partner, partner, Ended, ended-alone, ended-joined, reached-found, reached-none, rows-low, rows-few}
 use Rattle.search.proofs.next_step.Statement.{statement}
 use Rattle.search.proofs.next_step.Tie as tie
@@ -22,10 +22,10 @@ abbrev μ-search : tie.MeasureT-search
 μ-search actions scopes sides ends nodes i₀ from₀ j₀ label₀ i from j label = nodes - i
 
 number-requires : tie.Need-number-requires Inv-loop μ-loop Inv-search μ-search
-number-requires c κs = search needs
+number-requires c κs = tt
 
 number-requires-2 : tie.Need-number-requires-2 Inv-loop μ-loop Inv-search μ-search
-number-requires-2 c κs = search needs
+number-requires-2 c κs = tt
 
 search-holds : tie.Need-search-holds Inv-loop μ-loop Inv-search μ-search
 search-holds c = (refl, reached-start (c .before .before .args .actions .now) (c .before .before .args .scopes .now) (c .before .before .args .sides .now) (c .before .before .args .ends .now) (c .before .before .args .nodes) (c .before .number .result) (c .number2 .result))
@@ -49,10 +49,10 @@ element-copy-out-is-alone : tie.Need-element-copy-out-is-alone Inv-loop μ-loop 
 element-copy-out-is-alone c = search needs
 
 is-alone-requires : tie.Need-is-alone-requires Inv-loop μ-loop Inv-search μ-search
-is-alone-requires c κs = search needs
+is-alone-requires c κs = tt
 
 complement-requires : tie.Need-complement-requires Inv-loop μ-loop Inv-search μ-search
-complement-requires c κs = search needs
+complement-requires c κs = tt
 
 mul-number : tie.Need-mul-number Inv-loop μ-loop Inv-search μ-search
 mul-number c = search needs
@@ -61,13 +61,13 @@ element-copy-out-number : tie.Need-element-copy-out-number Inv-loop μ-loop Inv-
 element-copy-out-number c = search needs
 
 number-requires-3 : tie.Need-number-requires-3 Inv-loop μ-loop Inv-search μ-search
-number-requires-3 c κs = search needs
+number-requires-3 c κs = tt
 
 add-later : tie.Need-add-later Inv-loop μ-loop Inv-search μ-search
 add-later c = search needs
 
 later-requires : tie.Need-later-requires Inv-loop μ-loop Inv-search μ-search
-later-requires c κs = search needs
+later-requires c κs = tt
 
 loop-holds : tie.Need-loop-holds Inv-loop μ-loop Inv-search μ-search
 loop-holds c = (omega arith, (λ k h l. absurd (omega arith)), above-start (c .before .before .before .before .before .before .before .before .before .before .before .before .before .args .actions .now) (c .before .before .before .before .before .before .before .before .before .before .before .before .before .args .scopes .now) (c .before .before .before .before .before .before .before .before .before .before .before .before .before .args .sides .now) (c .before .before .before .before .before .before .before .before .before .before .before .before .before .args .ends .now) (c .before .before .before .before .before .before .before .before .before .before .before .before .before .args .nodes) (c .before .before .before .before .before .before .before .before .before .before .search .i) _ (c .before .number3 .result) (rows-low (c .before .before .before .before .before .before .before .before .before .before .before .before .before .pre .0) (c .before .before .before .before .before .before .before .before .before .before .before .before .before .args .nodes) (c .before .before .before .before .before .before .before .before .before .before .before .before .before .args .actions .now) (c .before .before .before .before .before .before .before .before .before .before .before .before .before .args .scopes .now) (c .before .before .before .before .before .before .before .before .before .before .before .before .before .args .sides .now) (c .before .before .before .before .before .before .before .before .before .before .before .before .before .args .ends .now) (c .before .before .before .before .before .before .before .before .before .before .before .before .before .pre .1)) (c .before .before .before .before .before .before .before .before .before .search-test .taken) (c .before .number3 .ensures))
@@ -88,7 +88,7 @@ element-copy-out-agree-3 : tie.Need-element-copy-out-agree-3 Inv-loop μ-loop In
 element-copy-out-agree-3 c = search needs
 
 agree-requires : tie.Need-agree-requires Inv-loop μ-loop Inv-search μ-search
-agree-requires c κs = search needs
+agree-requires c κs = tt
 
 climb-requires : tie.Need-climb-requires Inv-loop μ-loop Inv-search μ-search
 climb-requires c κs = (omega (arith, c .before .before .before .before .before .before .loop .inv .2 .0), rows-few (c .before .before .before .before .before .before .before .before .before .before .before .before .before .before .before .before .before .before .before .before .pre .0) (c .before .before .before .before .before .before .before .before .before .before .before .before .before .before .before .before .before .before .before .before .args .nodes) _ _ _ _ (c .before .before .before .before .before .before .before .before .before .before .before .before .before .before .before .before .before .before .before .before .pre .1), rows-low (c .before .before .before .before .before .before .before .before .before .before .before .before .before .before .before .before .before .before .before .before .pre .0) (c .before .before .before .before .before .before .before .before .before .before .before .before .before .before .before .before .before .before .before .before .args .nodes) _ _ _ _ (c .before .before .before .before .before .before .before .before .before .before .before .before .before .before .before .before .before .before .before .before .pre .1), c .before .before .before .before .before .before .before .before .before .before .before .before .before .before .before .before .before .before .before .before .pre .1 .side-room, c .before .before .before .before .before .before .before .before .before .before .before .before .before .before .before .before .before .before .before .before .pre .1 .end-room)

@@ -1,13 +1,10 @@
+-- `put` is safe and ends: what is gathered stays within the buffer.
 use borrow.Author.Needs.{needs}
 use mathlib.Core.Path.{_≡_}
 use Prim.Native.Nat.{_≤_, _-_}
 use lib.ListN.{length}
 use Rattle.listing.proofs.out.put.Statement.{statement}
 use Rattle.listing.proofs.out.put.Tie as tie
-use Rattle.listing.proofs.out.put.Reads as reads
-use Rattle.listing.proofs.out.put.Lts as lts
-use Rattle.listing.proofs.out.piece.Reads as piece-reads
-use Rattle.listing.proofs.out.room.Reads as room-reads
 
 abbrev Inv-loop : tie.InvT-loop
 Inv-loop space₀ n text to k i₀ space i = (i ≤ k) × (length space ≡ 4096)
@@ -15,51 +12,39 @@ Inv-loop space₀ n text to k i₀ space i = (i ≤ k) × (length space ≡ 4096
 abbrev μ-loop : tie.MeasureT-loop
 μ-loop space₀ n text to k i₀ space i = k - i
 
--- src/out.rt:46:9
 room-requires : tie.Need-room-requires Inv-loop μ-loop
 room-requires c κs = search needs
 
--- src/out.rt:47:9
 piece-requires : tie.Need-piece-requires Inv-loop μ-loop
 piece-requires c κs = search needs
 
--- src/out.rt:49:5
 loop-holds : tie.Need-loop-holds Inv-loop μ-loop
 loop-holds c = search needs
 
--- src/out.rt:50:25
 shared-slice-read-space : tie.Need-shared-slice-read-space Inv-loop μ-loop
 shared-slice-read-space c = search needs
 
--- src/out.rt:50:15
 add-space : tie.Need-add-space Inv-loop μ-loop
 add-space c = search needs
 
--- src/out.rt:50:9
 slice-write-space : tie.Need-slice-write-space Inv-loop μ-loop
 slice-write-space c = search needs
 
--- src/out.rt:51:9
 add-i : tie.Need-add-i Inv-loop μ-loop
 add-i c = search needs
 
--- src/out.rt:49:5
 loop-less : tie.Need-loop-less Inv-loop μ-loop
 loop-less c = search needs
 
--- src/out.rt:49:5
 loop-again : tie.Need-loop-again Inv-loop μ-loop
 loop-again c = search needs
 
--- src/out.rt:53:5
 add-result : tie.Need-add-result Inv-loop μ-loop
 add-result c = search needs
 
--- src/out.rt:42:1
 same-length : tie.Need-same-length Inv-loop μ-loop
 same-length c = search needs
 
--- src/out.rt:42:1
 returns : tie.Need-returns Inv-loop μ-loop
 returns c = search needs
 

@@ -1,0 +1,21 @@
+-- `concoursel_undo_listing` meets its contract: the operation's answer, packed.
+use Rattle.concoursel.proofs.Packs.{pack-lent}
+use borrow.Author.Needs.{needs}
+use Rattle.concoursel.proofs.concoursel_undo_listing.Statement.{statement}
+use Rattle.concoursel.proofs.concoursel_undo_listing.Tie as tie
+
+undo-listing-requires : tie.Need-undo-listing-requires
+undo-listing-requires c κs = search needs
+
+packed-listing-requires : tie.Need-packed-listing-requires
+packed-listing-requires c κs = search needs
+
+same-length : tie.Need-same-length
+same-length c = search needs
+
+returns : tie.Need-returns
+returns c = pack-lent _ _ _ _ (c .packed-listing .ensures) (c .before .before .before .undo-listing .ensures)
+
+pub concoursel-undo-listing-spec : {M : Type 1} → statement M
+concoursel-undo-listing-spec =
+    tie.close (tie.spec undo-listing-requires packed-listing-requires same-length returns)

@@ -1,0 +1,54 @@
+-- `list` is safe and ends: the rows that the index has filled are those of the record.
+use Rattle.search.proofs.Answers.{index-filled}
+use borrow.Author.Needs.{needs}
+use Rattle.listing.proofs.lines.list.Statement.{statement}
+use Rattle.listing.proofs.lines.list.Tie as tie
+
+slice-aggregate-space : tie.Need-slice-aggregate-space
+slice-aggregate-space c = search needs
+
+index-requires : tie.Need-index-requires
+index-requires c κs = search needs
+
+enum-known-c : tie.Need-enum-known-c
+enum-known-c c = search needs
+
+list-refused-requires : tie.Need-list-refused-requires
+list-refused-requires c κs = search needs
+
+enum-known-n : tie.Need-enum-known-n
+enum-known-n c = search needs
+
+put-counts-requires : tie.Need-put-counts-requires
+put-counts-requires c κs = search needs
+
+put-steps-requires : tie.Need-put-steps-requires
+put-steps-requires c κs = let f = index-filled (c .before .before .before .before .before .before .before .before .before .before .before .before .before .before .before .before .before .before .before .args .bytes .now) _ _ _ _ (c .before .before .before .before .before .before .before .before .before .before .before .before .index .result) (c .before .before .before .before .before .before .before .before .before .before .before .before .index .ensures) _ (c .before .before .before .before .before .before .before .before .before .before .n .given .1) in ((c .before .before .before .before .before .before .before .put-counts .ensures .0, c .before .before .before .before .before .before .before .put-counts .ensures .1), (f .0, f .2))
+
+put-allowed-requires : tie.Need-put-allowed-requires
+put-allowed-requires c κs = search needs
+
+flush-requires : tie.Need-flush-requires
+flush-requires c κs = search needs
+
+returns : tie.Need-returns
+returns c = search needs
+
+returns-2 : tie.Need-returns-2
+returns-2 c = search needs
+
+pub list-spec : {M : Type 1} → statement M
+list-spec =
+    tie.close
+    (tie.spec
+    slice-aggregate-space
+    index-requires
+    enum-known-c
+    list-refused-requires
+    enum-known-n
+    put-counts-requires
+    put-steps-requires
+    put-allowed-requires
+    flush-requires
+    returns
+    returns-2)
