@@ -1,0 +1,3 @@
+-- Ranks: their laws, and what the code computes.
+pub mod Ranks
+pub mod Steps

@@ -1,0 +1,2 @@
+-- Dense numbers for the members of a set.
+pub mod Rank
