@@ -46,6 +46,8 @@ pub laid-out : (s : List ℕ) (x : Sheet) (r : Place) (y : Sheet) → ((k : ℕ)
     → LaidOut s (r .row) (y .keys) (y .actions) (y .ends) (y .scopes) (y .ups)
 laid-out s x r y z L t w = let l = L t [] open-scopes (here-start s t w) (tells-open (x .nearest) z) in record {
   count = omega (arith, l .row, entries-count 0 0 0 open-scopes t);
+  few = omega (arith, l .row, here-start s t w .room);
+  whole = record { keys = l .sized .keys; actions = l .sized .actions; ends = l .sized .ends; scopes = l .sized .scopes; ups = l .sized .ups };
   keys = l .rows .keys;
   actions = l .rows .actions;
   ends = l .rows .ends;

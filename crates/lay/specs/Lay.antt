@@ -52,6 +52,8 @@ pub record Whole (ks acs es ss us : List ℕ) : Type 0 where
 -- the first r rows of the columns are the entries of the record's term
 pub record AllLaid (t : Term) (r : ℕ) (ks acs es ss us : List ℕ) : Type 0 where
   pub count : r ≡ length (all t)
+  pub few : r ≤ node-limit
+  pub whole : Whole ks acs es ss us
   pub keys : take r ks ≡ column (λ e. e .key) (all t)
   pub actions : take r acs ≡ column (λ e. e .action) (all t)
   pub ends : take r es ≡ column (λ e. e .end) (all t)
