@@ -141,6 +141,20 @@ uint64_t concoursel_waiting(const uint8_t *record, size_t len, uint16_t key, uin
 /* Blank form: every key becomes 0. Answers the number of distinct keys removed. Refusals: 1, 2. */
 uint64_t concoursel_blank(uint8_t *record, size_t len);
 
+/*
+ * Soundness: could this record have come about by allowed steps from its blank form? Answers 0 if so, else the lowest
+ * number that fails, which is no refusal:
+ *   1  something below a prefix with key 0 holds a key
+ *   2  both sides of a choice hold keys
+ *   3  a key stands more than twice
+ *   4  a key that stands twice marks actions that are not complementary
+ *   5  a key that stands twice does not stand once on each side of some parallel
+ *   6  under a restriction on a name, a key that marks it or its co-name does not stand twice below that restriction
+ *   7  the keys stand above each other in a circle
+ * Refusals: 1, 2.
+ */
+uint64_t concoursel_verdict(const uint8_t *record, size_t len);
+
 #ifdef __cplusplus
 }
 #endif

@@ -3,9 +3,9 @@ use mathlib.Core.Path.{_≡_}
 use mathlib.Core.List.{List}
 use Prim.Native.Nat.{ℕ}
 use Rattle.operations.specs.Change.{ForwardStep, UndoStep, BlankForm}
-use Rattle.operations.specs.Ask.{ReadRecord, KeyCount, FreeKey, FirstStep, UndoListing, WaitingList}
+use Rattle.operations.specs.Ask.{ReadRecord, KeyCount, FreeKey, FirstStep, UndoListing, WaitingList, Soundness}
 use Rattle.operations.proofs.ChangeOnce.{forward-once, undo-step-once, blank-once}
-use Rattle.operations.proofs.NumberOnce.{read-once, count-once, free-once}
+use Rattle.operations.proofs.NumberOnce.{read-once, count-once, free-once, sound-once}
 use Rattle.operations.proofs.RowOnce.{listing-once, waiting-once}
 use Rattle.operations.proofs.FirstOnce.{first-once}
 use Rattle.concoursel.specs.Packed.{PackedStep, PackedNumber, PackedLent, PackedFirst, PackedFirst.packed}
@@ -38,3 +38,6 @@ module _ (s : List ℕ) where
 
   pub undo-listing-entry-once : {r r′ : ℕ} {row b b′ : List ℕ} → PackedLent (UndoListing s row) r b → PackedLent (UndoListing s row) r′ b′ → (r ≡ r′) × (b ≡ b′)
   undo-listing-entry-once = packed-lent-once (λ c c′ n n′ b b′ f g. listing-once f g)
+
+  pub verdict-entry-once : {r r′ : ℕ} → PackedNumber (Soundness s) r → PackedNumber (Soundness s) r′ → r ≡ r′
+  verdict-entry-once = packed-number-once (λ c c′ n n′ f g. sound-once f g)

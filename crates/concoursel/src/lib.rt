@@ -9,7 +9,7 @@ use steps::Moved;
 use undos::listing::Rows;
 ghost use mathlib.Core.Path.{_≡_};
 ghost use Rattle.keys.specs.Number as number;
-ghost use Rattle.operations.specs.Ask.{ReadRecord, KeyCount, FreeKey, FirstStep, UndoListing, WaitingList};
+ghost use Rattle.operations.specs.Ask.{ReadRecord, KeyCount, FreeKey, FirstStep, UndoListing, WaitingList, Soundness};
 ghost use Rattle.operations.specs.Change.{ForwardStep, UndoStep, BlankForm};
 ghost use Rattle.rows.specs.Row as row;
 ghost use Rattle.search.specs.First as first;
@@ -153,4 +153,12 @@ pub extern "C" fn concoursel_waiting(record: &[u8], key: u16, list: &mut [u16]) 
     ensures { λ r. ⌜ PackedLent (WaitingList (now («record» .entry)) key (now (list .entry))) r (now (list .exit)) ⌝ }
 {
     packed_row(waiting::waiting(record, key, list))
+}
+
+// Soundness: the verdict.
+#[no_mangle]
+pub extern "C" fn concoursel_verdict(record: &[u8]) -> u64
+    ensures { λ r. ⌜ PackedNumber (Soundness (now («record» .entry))) r ⌝ }
+{
+    packed_number(soundness::verdict(record))
 }

@@ -1,13 +1,13 @@
 -- What the pass notes, step by step along the reading of the record.
 use mathlib.Core.Path.{_≡_, refl, sym, subst, _∙_}
-use mathlib.Core.Logic.{_⊎_, inl, inr, ⊎-elim, _≢_}
+use mathlib.Core.Logic.{_⊎_, ⊎-elim, _≢_}
 use mathlib.Core.List.{List, []}
 use Prim.Native.Nat.{ℕ, zero, suc, _+_, _-_, _<_, _≤_}
 use native.Mathlib.Decide.{ℕ-discrete}
 use native.Mathlib.Omega.{arith}
 use borrow.Author.Tests.{ne-eqb}
 use lib.ListN.{length}
-use Rattle.ccsk.specs.Term.{Term, nil, pre, cho, par, res, size, done}
+use Rattle.ccsk.specs.Term.{Term, nil, cho, par, size, done}
 use Rattle.format.specs.Limits.{node-limit}
 use Rattle.reader.specs.Head.{NodeAt, body, childCount}
 use Rattle.reader.specs.Walk.{Stops, Walks}
@@ -98,14 +98,22 @@ module _ (s : List ℕ) (at d c : ℕ) (hs : at < length s) (hd : d ≡ 0 → �
         pub gathers-prefix : kind ≡ 1 → (l₂ : ℕ) (rs₃ : List Last) → OverPrefix s at (en .keys) k₁ l l₁ (b₂ .rows) (b₂ .scopes) l₂ rs₃ → (Z : Type 0) → Z
             → Gathers s at d c k l (arrays sc all rs) (found.Part n c₁ k₁ l₂) (arrays (b₂ .scopes) (b₂ .all) rs₃) Z
         unfolding t
-        gathers-prefix z l₂ rs₃ O Z v = (_, walks-prefix s at d c hs hd hc kind children next H t n c₁ (first .1) z,
-            noted-prefix s at kind (node-limit - c) k l sc all rs h all₁ en t sc₁ (b₂ .scopes) (b₂ .all) (b₂ .rows) rs₃ k₁ l₁ l₂ z E below O, v)
+        gathers-prefix z l₂ rs₃ O Z v = (
+          _,
+          walks-prefix s at d c hs hd hc kind children next H t n c₁ (first .1) z,
+          noted-prefix s at kind (node-limit - c) k l sc all rs h all₁ en t sc₁ (b₂ .scopes) (b₂ .all) (b₂ .rows) rs₃ k₁ l₁ l₂ z E below O,
+          v,
+        )
 
         pub gathers-restriction : kind ≡ 4 → (sc₃ : Scopes) → sc₃ ≡ closed (name-at s at) (en .scope) (b₂ .scopes) → (Z : Type 0) → Z
             → Gathers s at d c k l (arrays sc all rs) (found.Part n c₁ k₁ l₁) (arrays sc₃ (b₂ .all) (b₂ .rows)) Z
         unfolding t
-        gathers-restriction z sc₃ e Z v = (_, walks-restriction s at d c hs hd hc kind children next H t n c₁ (first .1) z,
-            noted-restriction s at kind (node-limit - c) k l sc all rs h all₁ en t sc₁ (b₂ .scopes) sc₃ (b₂ .all) (b₂ .rows) k₁ l₁ z E below e, v)
+        gathers-restriction z sc₃ e Z v = (
+          _,
+          walks-restriction s at d c hs hd hc kind children next H t n c₁ (first .1) z,
+          noted-restriction s at kind (node-limit - c) k l sc all rs h all₁ en t sc₁ (b₂ .scopes) sc₃ (b₂ .all) (b₂ .rows) k₁ l₁ z E below e,
+          v,
+        )
 
         module _ (a : children ≡ 0 → ⊥) (a′ : children ≡ 1 → ⊥) (b₃ : Lent) (Z : Type 0) (r₂ : Outcome) (w₂ : Gathers s n (d - 1) c₁ k₁ l₁ b₂ r₂ b₃ Z) where
           sides : (kind ≡ 2) ⊎ (kind ≡ 3)
@@ -135,9 +143,17 @@ module _ (s : List ℕ) (at d c : ℕ) (hs : at < length s) (hd : d ≡ 0 → �
               beside = at-node (node-limit - c₁) (node-limit - c + 1 + size t) (omega (arith, first .1 .nodes)) (second .2)
 
               choice : kind ≡ 2 → Gathers s at d c k l (arrays sc all rs) (found.Part n₂ c₂ k₂ l₃) b₃ Z
-              choice z = (cho t u, walks-choice s at d c hs hd hc kind children next H t n c₁ (first .1) u n₂ c₂ (second .1) z,
-                  noted-choice (node-limit - c) k l k₁ l₁ k₂ l₂ t u (arrays sc all rs) b₂ b₃ h plain beside kind l₃ z e, second .3)
+              choice z = (
+                cho t u,
+                walks-choice s at d c hs hd hc kind children next H t n c₁ (first .1) u n₂ c₂ (second .1) z,
+                noted-choice (node-limit - c) k l k₁ l₁ k₂ l₂ t u (arrays sc all rs) b₂ b₃ h plain beside kind l₃ z e,
+                second .3,
+              )
 
               parallel : kind ≡ 3 → Gathers s at d c k l (arrays sc all rs) (found.Part n₂ c₂ k₂ l₃) b₃ Z
-              parallel z = let f : l₃ ≡ l₂ = rw (ne-eqb kind 2 (λ y. omega arith)) at e in (par t u, walks-parallel s at d c hs hd hc kind children next H t n c₁ (first .1) u n₂ c₂ (second .1) z,
-                  rw f (noted-parallel (node-limit - c) k l k₁ l₁ k₂ l₂ t u (arrays sc all rs) b₂ b₃ h plain beside), second .3)
+              parallel z = let f : l₃ ≡ l₂ = rw (ne-eqb kind 2 (λ y. omega arith)) at e in (
+                par t u,
+                walks-parallel s at d c hs hd hc kind children next H t n c₁ (first .1) u n₂ c₂ (second .1) z,
+                rw f (noted-parallel (node-limit - c) k l k₁ l₁ k₂ l₂ t u (arrays sc all rs) b₂ b₃ h plain beside),
+                second .3,
+              )

@@ -1,23 +1,23 @@
 -- What is known of each key at its rank, one key or one last further on.
-use mathlib.Core.Path.{_≡_, refl, sym, ap, subst, _∙_}
-use mathlib.Core.Logic.{_⊎_, inl, inr, ⊎-elim, _↔_, _≢_}
+use mathlib.Core.Path.{_≡_, refl, sym, subst, _∙_}
+use mathlib.Core.Logic.{_⊎_, inl, inr, _↔_, _≢_}
 use mathlib.Core.List.{List, [], _∷_, _++_, append-nil, append-assoc}
-use mathlib.Core.Bool.{Bool, true, false, cond}
+use mathlib.Core.Bool.{Bool, true, false}
 use Prim.Native.Nat.{ℕ, zero, suc, _+_, _*_, _<_, _≤_}
 use native.Mathlib.Decide.{ℕ-discrete, decLt}
 use native.Mathlib.Numerals.{add-one}
 use native.Mathlib.Omega.{arith}
 use borrow.Author.Tests.{eq-eqb, ne-eqb, lt-ltb, le-ltb}
-use lib.Dec.{eqb, ltb}
-use lib.ListN.{length, getD, set, take, length-set, length-append}
+use lib.Dec.{eqb}
+use lib.ListN.{length, getD, set, take, length-append}
 use lib.Seq.{getD-set-same, getD-set-other, take-suc, length-take-le, getD-take}
 use Rattle.ccsk.specs.Numbers.{In, in?, distinct, new}
 use Rattle.ccsk.specs.Term.{Key, Co}
-use Rattle.ccsk.proofs.Lists.{in-left, in-right, in-either, distinct-old, distinct-new}
+use Rattle.ccsk.proofs.Lists.{in-left, in-right, in-either}
 use Rattle.format.specs.Limits.{node-limit}
 use Rattle.keyset.specs.Set.{member, added}
-use Rattle.keyset.proofs.Sets.{added-same, added-other, length-added}
-use Rattle.rank.specs.Rank.{one-more, rank, Ranked}
+use Rattle.keyset.proofs.Sets.{added-same, added-other}
+use Rattle.rank.specs.Rank.{one-more, rank}
 use Rattle.rank.proofs.Ranks.{rank-once, rank-less, rank-counts}
 use Rattle.lasts.specs.Last.{Last, keep, only, Ready}
 use Rattle.lasts.proofs.Nodes.{only-append}

@@ -20,7 +20,7 @@ use Rattle.keyset.proofs.Sets.{empty-member}
 use Rattle.operations.specs.Ask.{Filled, Filled.short, Filled.filled}
 use Rattle.rank.specs.Rank.{rank}
 use Rattle.rank.proofs.Ranks.{rank-ordered, rank-less, rank-once, rank-reached}
-use Rattle.lasts.specs.Last.{Last, only, keep, Ready}
+use Rattle.lasts.specs.Last.{Last, only, Ready}
 use Rattle.undos.specs.Group.{Empty, Small, Marks, AllAmong, times, Counted, AllIn, Standing, Standing.once, Standing.twice, Standing.never, Standing.half, Standing.ready, Settled, when, listed}
 use Rattle.undos.proofs.Groups.{ranks-few}
 use Rattle.undos.specs.Rows.{Put, Lines, Lines.lines}

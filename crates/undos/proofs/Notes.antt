@@ -1,6 +1,6 @@
 -- What one node notes: its own key or scope, and the lasts that stay.
-use mathlib.Core.Path.{_≡_, refl, sym, ap, subst, _∙_}
-use mathlib.Core.Logic.{_⊎_, inl, inr, ⊎-elim, _≢_}
+use mathlib.Core.Path.{_≡_, refl, sym, subst, _∙_}
+use mathlib.Core.Logic.{_≢_}
 use mathlib.Core.List.{List, [], _∷_, _++_, append-nil, append-assoc}
 use mathlib.Core.Bool.{Bool, true, false, cond, not, _||_}
 use Prim.Native.Nat.{ℕ, zero, suc, _+_, _<_, _≤_, _%_}
@@ -15,7 +15,7 @@ use Rattle.moves.specs.Move.{holds}
 use Rattle.lasts.specs.Last.{Last, Scopes, slot, scope-of, enclosed, over-prefix, over-choice, lasts}
 use Rattle.undos.specs.declared.gather.Entered.{Entered}
 use Rattle.undos.specs.Gather.{rows, key-at, name-at, Enters, closed, OverPrefix, over-two, Lent, Noted}
-use Rattle.undos.proofs.Rows.{rows-length, rows-set, cut-back, push}
+use Rattle.undos.proofs.Rows.{rows-set, cut-back, push}
 
 done-some : (k : Key) (x : List Key) → k ≢ 0 → done k x ≡ k ∷ x
 done-some zero x h = absurd (h refl)
@@ -170,13 +170,13 @@ module _ (s : List ℕ) (at kind n k l : ℕ) (c : Scopes) (all : List ℕ) (rs 
       → Noted n (pre (name-at s at) (key-at s at) t) k l (arrays c all rs) k₂ l₃ (arrays c₂ all₂ rs₃)
   unfolding keys lasts
   own-prefix c₂ all₂ rs₂ rs₃ k₂ l₂ l₃ q e f N O = let w = O (take l rs) (lasts (n + 1) c t) (length-take-le l rs h) (N .last-count) (N .noted-lasts) in
-    let g : holds t ≡ not (eqb k₂ (r .keys)) = holds-counted t (r .keys) k₂ (N .key-count) in record {
-      same-scopes = N .same-scopes;
-      noted-keys = N .noted-keys ∙ rw (e, append-assoc (take k all) (done (key-at s at) []) (keys t), ← done-front (key-at s at) (keys t));
-      key-count = rw (done-front (key-at s at) (keys t), length-append (done (key-at s at) []) (keys t)) (omega (arith, N .key-count));
-      noted-lasts = rw g (w .0);
-      last-count = rw g (w .1);
-    }
+      let g : holds t ≡ not (eqb k₂ (r .keys)) = holds-counted t (r .keys) k₂ (N .key-count) in record {
+        same-scopes = N .same-scopes;
+        noted-keys = N .noted-keys ∙ rw (e, append-assoc (take k all) (done (key-at s at) []) (keys t), ← done-front (key-at s at) (keys t));
+        key-count = rw (done-front (key-at s at) (keys t), length-append (done (key-at s at) []) (keys t)) (omega (arith, N .key-count));
+        noted-lasts = rw g (w .0);
+        last-count = rw g (w .1);
+      }
 
   pub noted-prefix : (c₁ c₂ : Scopes) (all₂ : List ℕ) (rs₂ rs₃ : List Last) (k₂ l₂ l₃ : ℕ) → kind ≡ 1 → Enters s at kind n k all all₁ c c₁ r
       → Noted (n + 1) t (r .keys) l (arrays c₁ all₁ rs) k₂ l₂ (arrays c₂ all₂ rs₂) → OverPrefix s at (r .keys) k₂ l l₂ rs₂ c₂ l₃ rs₃

@@ -1,13 +1,11 @@
 -- Lists noted at the front of lent arrays: pushing one, cutting back, and columns as rows.
 use mathlib.Core.Path.{_≡_, refl, sym, ap, _∙_}
-use mathlib.Core.Logic.{_≢_}
-use mathlib.Core.List.{List, [], _∷_, _++_, append-nil, append-assoc}
-use mathlib.Core.Bool.{Bool, true, false}
+use mathlib.Core.List.{List, [], _∷_, _++_}
 use Prim.Native.Nat.{ℕ, zero, suc, _+_, _-_, _<_, _≤_}
 use native.Mathlib.Numerals.{add-one}
 use native.Mathlib.Omega.{arith}
-use lib.ListN.{length, getD, set, take, length-append}
-use lib.Seq.{take-take, take-at, take-suc-set, length-take-le, set-set, set-getD}
+use lib.ListN.{length, getD, set, take}
+use lib.Seq.{take-take, take-at, take-suc-set}
 use Rattle.format.specs.Limits.{node-limit}
 use Rattle.lasts.specs.Last.{Last}
 use Rattle.undos.specs.Gather.{rows}

@@ -1,6 +1,6 @@
 -- The whole record: what was noted are the keys and the lasts of its term, so the keys that are ready are those that can be undone.
-use mathlib.Core.Path.{_≡_, refl, sym, ap, subst, _∙_}
-use mathlib.Core.Logic.{_⊎_, inl, inr, ⊎-elim, _↔_, _≢_}
+use mathlib.Core.Path.{_≡_, refl, ap, _∙_}
+use mathlib.Core.Logic.{inl, inr}
 use mathlib.Core.List.{List, [], _∷_, _++_}
 use mathlib.Core.Bool.{Bool, true, false}
 use Prim.Native.Nat.{ℕ, zero, suc, _+_, _<_, _≤_}
@@ -14,10 +14,9 @@ use Rattle.ccsk.specs.Step.{Undoable}
 use Rattle.ccsk.proofs.Lists.{in-left, in-right}
 use Rattle.ccsk.proofs.Keys.{in-has}
 use Rattle.format.specs.Limits.{node-limit, depth-limit}
-use Rattle.format.specs.Read.{Reads, Refuses}
+use Rattle.format.specs.Read.{Reads}
 use Rattle.format.specs.Encode.{InRange, Bytes}
-use Rattle.operations.specs.Ask.{UndoListing}
-use Rattle.operations.specs.Ask.{UndoListing.unreadable as refused-row, UndoListing.done as listed-row}
+use Rattle.operations.specs.Ask.{UndoListing, UndoListing.unreadable as refused-row, UndoListing.done as listed-row}
 use Rattle.operations.proofs.Kept.{range-key}
 use Rattle.operations.proofs.Readable.{read-fits}
 use Rattle.reader.specs.Walk.{Walks}

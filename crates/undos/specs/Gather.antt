@@ -2,7 +2,7 @@
 use mathlib.Core.Path.{_≡_}
 use mathlib.Core.Logic.{_≢_}
 use mathlib.Core.List.{List, [], _∷_, _++_}
-use mathlib.Core.Bool.{Bool, true, false, cond, not}
+use mathlib.Core.Bool.{cond, not}
 use Prim.Native.Nat.{ℕ, _+_, _-_}
 use lib.Dec.{eqb}
 use lib.ListN.{length, getD, set, take}
@@ -46,7 +46,7 @@ closed a outer scopes = set scopes (slot a) outer
 abbrev pub OverPrefix : List ℕ → ℕ → ℕ → ℕ → ℕ → ℕ → List Last → Scopes → ℕ → List Last → Type 0
 OverPrefix s at k₀ k l₀ l rs scopes r rs′ = (old x : List Last) → length old ≡ l₀ → l ≡ l₀ + length x → take l rs ≡ old ++ x
     → let y = over-prefix (eqb (key-at s at) 0) (not (eqb k k₀)) (record { key = key-at s at; action = name-at s at; scope = scope-of scopes (name-at s at) }) x in
-      (take r rs′ ≡ old ++ y) × (r ≡ l₀ + length y)
+    (take r rs′ ≡ old ++ y) × (r ≡ l₀ + length y)
 
 -- how many lasts stay at a choice or a parallel
 abbrev pub over-two : ℕ → ℕ → ℕ → ℕ → ℕ → ℕ → ℕ

@@ -1,10 +1,8 @@
 -- The refusal number and the count of a listing's answer (01, Operations and their refusals), and what one step of writing leaves of a row.
 use mathlib.Core.Path.{_≡_}
 use mathlib.Core.List.{List, _++_}
-use mathlib.Core.Bool.{Bool, true, false}
 use Prim.Native.Nat.{ℕ, _+_}
-use lib.Dec.{eqb}
-use lib.ListN.{length, getD, set, drop}
+use lib.ListN.{length, drop}
 use Rattle.ccsk.specs.Numbers.{Lists}
 use Rattle.ccsk.specs.Term.{Key}
 use Rattle.lasts.specs.Last.{Last, only, Ready}

@@ -1,5 +1,13 @@
 // One pass over a record that reads it and notes, in lent arrays, its keys and the prefixes that can be the last to have been done.
-use reader::{node_at, wide, Head, CHOICE, NODES, NO_RECORD, OVER_LIMIT, PREFIX, RESTRICTION};
+use reader::CHOICE;
+use reader::Head;
+use reader::NO_RECORD;
+use reader::NODES;
+use reader::OVER_LIMIT;
+use reader::PREFIX;
+use reader::RESTRICTION;
+use reader::node_at;
+use reader::wide;
 use survey::pass::key_of;
 ghost use mathlib.Core.Path.{_≡_};
 ghost use mathlib.Core.Logic.{_≢_};
@@ -16,7 +24,12 @@ pub const SLOTS: usize = 128;
 // lasts are noted now.
 pub enum Outcome {
     Refused(u8),
-    Part { next: usize, left: usize, keys: usize, lasts: usize },
+    Part {
+        next: usize,
+        left: usize,
+        keys: usize,
+        lasts: usize,
+    },
 }
 
 // What a node leaves behind before its first child is read: how many keys are noted, and the scope that its name had.
@@ -26,7 +39,15 @@ pub struct Entered {
 }
 
 // Enters node n at `at`: a prefix notes its key, a restriction is the scope of its name from here.
-fn enter(s: &[u8], at: usize, kind: usize, n: usize, keys: usize, all: &mut [u16; NODES], scopes: &mut [u16; SLOTS]) -> Entered
+fn enter(
+    s: &[u8],
+    at: usize,
+    kind: usize,
+    n: usize,
+    keys: usize,
+    all: &mut [u16; NODES],
+    scopes: &mut [u16; SLOTS],
+) -> Entered
     requires { ⌜ (kind ≡ 1 → at + 3 < length (now s)) × (kind ≡ 4 → at + 1 < length (now s)) ⌝ }
     requires { ⌜ (n < node-limit) × (keys < node-limit) × (length (now all) ≡ node-limit) × (length (now scopes) ≡ 128) ⌝ }
     ensures { λ r. ⌜ Enters (now (s .entry)) at kind n keys (now (all .entry)) (now (all .exit)) (now (scopes .entry)) (now (scopes .exit)) r ⌝ }
@@ -34,18 +55,30 @@ fn enter(s: &[u8], at: usize, kind: usize, n: usize, keys: usize, all: &mut [u16
     if kind == PREFIX {
         let key = key_of(s[at + 2], s[at + 3]);
         if key == 0 {
-            return Entered { keys: keys, scope: 0 };
+            return Entered {
+                keys: keys,
+                scope: 0,
+            };
         }
         all[keys] = key;
-        return Entered { keys: keys + 1, scope: 0 };
+        return Entered {
+            keys: keys + 1,
+            scope: 0,
+        };
     }
     if kind == RESTRICTION {
         let slot = wide(s[at + 1]) % SLOTS;
         let outer = scopes[slot];
         scopes[slot] = (n + 1) as u16;
-        return Entered { keys: keys, scope: outer };
+        return Entered {
+            keys: keys,
+            scope: outer,
+        };
     }
-    Entered { keys: keys, scope: 0 }
+    Entered {
+        keys: keys,
+        scope: 0,
+    }
 }
 
 // Leaves a restriction at `at`: its name has the scope that it had before.
@@ -58,7 +91,18 @@ fn close(s: &[u8], at: usize, outer: u16, scopes: &mut [u16; SLOTS])
 }
 
 // How many lasts stay when the prefix at `at` is left. Before its child there were `keys` keys and `lasts` lasts, now there are `k` and `l`.
-fn over_prefix(s: &[u8], at: usize, keys: usize, k: usize, lasts: usize, l: usize, key: &mut [u16; NODES], action: &mut [u8; NODES], scope: &mut [u16; NODES], scopes: &[u16; SLOTS]) -> usize
+fn over_prefix(
+    s: &[u8],
+    at: usize,
+    keys: usize,
+    k: usize,
+    lasts: usize,
+    l: usize,
+    key: &mut [u16; NODES],
+    action: &mut [u8; NODES],
+    scope: &mut [u16; NODES],
+    scopes: &[u16; SLOTS],
+) -> usize
     requires { ⌜ (at + 3 < length (now s)) × (lasts < node-limit) × (length (now scopes) ≡ 128) ⌝ }
     requires { ⌜ (length (now key) ≡ node-limit) × (length (now action) ≡ node-limit) × (length (now scope) ≡ node-limit) ⌝ }
     ensures { λ r. ⌜ OverPrefix (now (s .entry)) at keys k lasts l (rows (now (key .entry)) (now (action .entry)) (now (scope .entry))) (now (scopes .entry)) r (rows (now (key .exit)) (now (action .exit)) (now (scope .exit))) × (length (now (key .exit)) ≡ node-limit) × (length (now (action .exit)) ≡ node-limit) × (length (now (scope .exit)) ≡ node-limit) ⌝ }
@@ -93,7 +137,19 @@ fn over_two(kind: usize, k0: usize, k1: usize, k2: usize, l0: usize, l2: usize) 
 }
 
 // The term at `at`: at most `deep` levels and `left` nodes may come; `keys` keys and `lasts` lasts are noted so far.
-pub fn gather(s: &[u8], at: usize, deep: usize, left: usize, keys: usize, lasts: usize, all: &mut [u16; NODES], key: &mut [u16; NODES], action: &mut [u8; NODES], scope: &mut [u16; NODES], scopes: &mut [u16; SLOTS]) -> Outcome
+pub fn gather(
+    s: &[u8],
+    at: usize,
+    deep: usize,
+    left: usize,
+    keys: usize,
+    lasts: usize,
+    all: &mut [u16; NODES],
+    key: &mut [u16; NODES],
+    action: &mut [u8; NODES],
+    scope: &mut [u16; NODES],
+    scopes: &mut [u16; SLOTS],
+) -> Outcome
     requires { ⌜ (keys + left ≤ node-limit) × (lasts ≤ keys) ⌝ }
     requires { ⌜ Sized (now scopes) (now all) (now key) (now action) (now scope) ⌝ }
     ensures { λ r. ⌜ Gathers (now (s .entry)) at deep left keys lasts (lent (now (scopes .entry)) (now (all .entry)) (now (key .entry)) (now (action .entry)) (now (scope .entry))) r (lent (now (scopes .exit)) (now (all .exit)) (now (key .exit)) (now (action .exit)) (now (scope .exit))) (Sized (now (scopes .exit)) (now (all .exit)) (now (key .exit)) (now (action .exit)) (now (scope .exit))) ⌝ }
@@ -109,24 +165,93 @@ pub fn gather(s: &[u8], at: usize, deep: usize, left: usize, keys: usize, lasts:
     }
     match node_at(s, at) {
         Head::Bad => Outcome::Refused(NO_RECORD),
-        Head::Node { kind, children, next } => {
+        Head::Node {
+            kind,
+            children,
+            next,
+        } => {
             if children == 0 {
-                return Outcome::Part { next: next, left: left - 1, keys: keys, lasts: lasts };
+                return Outcome::Part {
+                    next: next,
+                    left: left - 1,
+                    keys: keys,
+                    lasts: lasts,
+                };
             }
             let entered = enter(s, at, kind, NODES - left, keys, all, scopes);
-            match gather(s, next, deep - 1, left - 1, entered.keys, lasts, all, key, action, scope, scopes) {
+            match gather(
+                s,
+                next,
+                deep - 1,
+                left - 1,
+                entered.keys,
+                lasts,
+                all,
+                key,
+                action,
+                scope,
+                scopes,
+            ) {
                 Outcome::Refused(c) => Outcome::Refused(c),
-                Outcome::Part { next: second, left: rest, keys: k, lasts: l } => {
+                Outcome::Part {
+                    next: second,
+                    left: rest,
+                    keys: k,
+                    lasts: l,
+                } => {
                     if children == 1 {
                         if kind == PREFIX {
-                            return Outcome::Part { next: second, left: rest, keys: k, lasts: over_prefix(s, at, entered.keys, k, lasts, l, key, action, scope, scopes) };
+                            return Outcome::Part {
+                                next: second,
+                                left: rest,
+                                keys: k,
+                                lasts: over_prefix(
+                                    s,
+                                    at,
+                                    entered.keys,
+                                    k,
+                                    lasts,
+                                    l,
+                                    key,
+                                    action,
+                                    scope,
+                                    scopes,
+                                ),
+                            };
                         }
                         close(s, at, entered.scope, scopes);
-                        return Outcome::Part { next: second, left: rest, keys: k, lasts: l };
+                        return Outcome::Part {
+                            next: second,
+                            left: rest,
+                            keys: k,
+                            lasts: l,
+                        };
                     }
-                    match gather(s, second, deep - 1, rest, k, l, all, key, action, scope, scopes) {
+                    match gather(
+                        s,
+                        second,
+                        deep - 1,
+                        rest,
+                        k,
+                        l,
+                        all,
+                        key,
+                        action,
+                        scope,
+                        scopes,
+                    ) {
                         Outcome::Refused(c) => Outcome::Refused(c),
-                        Outcome::Part { next: end, left: last, keys: m, lasts: n } => Outcome::Part { next: end, left: last, keys: m, lasts: over_two(kind, keys, k, m, lasts, n) },
+                        Outcome::Part {
+                            next: end,
+                            left: last,
+                            keys: m,
+                            lasts: n,
+                        } => Outcome::Part {
+                            next: end,
+                            left: last,
+                            keys: m,
+                            lasts: over_two(kind, keys, k, m, lasts, n),
+                        },
                     }
                 }
             }

@@ -1,5 +1,6 @@
 // The keys that were noted, settled one by one at their ranks: how often each stands, and whether its lasts are ready.
-use keyset::{add, BYTES};
+use keyset::BYTES;
+use keyset::add;
 use rank::rank;
 use reader::NODES;
 use survey::seen::complementary;
@@ -61,7 +62,13 @@ fn bump(state: u8) -> u8
 }
 
 // Counts each of the first n keys at its rank, up to three.
-pub fn tally(all: &[u16; NODES], n: usize, marks: &[u8; BYTES], base: &[u16; BYTES], state: &mut [u8; NODES])
+pub fn tally(
+    all: &[u16; NODES],
+    n: usize,
+    marks: &[u8; BYTES],
+    base: &[u16; BYTES],
+    state: &mut [u8; NODES],
+)
     requires { ⌜ (length (now all) ≡ node-limit) × (n ≤ node-limit) × Small (take n (now all)) × Marks (take n (now all)) (now marks) × Ranked (now marks) (now base) ⌝ }
     requires { ⌜ (length (now state) ≡ node-limit) × Counted (now marks) [] (now state) ⌝ }
     ensures { λ _. ⌜ (length (now (state .exit)) ≡ node-limit) × Counted (now (marks .entry)) (take n (now (all .entry))) (now (state .exit)) ⌝ }
@@ -75,47 +82,86 @@ pub fn tally(all: &[u16; NODES], n: usize, marks: &[u8; BYTES], base: &[u16; BYT
 }
 
 // The state and slot of a key after its last at row i.
-fn meet(key: &[u16; NODES], action: &[u8; NODES], scope: &[u16; NODES], i: usize, state: u8, slot: u16) -> Met
+fn meet(
+    key: &[u16; NODES],
+    action: &[u8; NODES],
+    scope: &[u16; NODES],
+    i: usize,
+    state: u8,
+    slot: u16,
+) -> Met
     requires { ⌜ (length (now key) ≡ node-limit) × (length (now action) ≡ node-limit) × (length (now scope) ≡ node-limit) ⌝ }
     requires { ⌜ (i < node-limit) × (state ≡ 4 → slot < node-limit) ⌝ }
     ensures { λ r. ⌜ ((c : ℕ) (x : List Last) → Standing (rows (now (key .entry)) (now (action .entry)) (now (scope .entry))) (getD (now (key .entry)) i 0) c x state slot → Standing (rows (now (key .entry)) (now (action .entry)) (now (scope .entry))) (getD (now (key .entry)) i 0) c (x ++ (record { key = getD (now (key .entry)) i 0; action = getD (now (action .entry)) i 0; scope = getD (now (scope .entry)) i 0 } ∷ [])) (r .state) (r .slot)) ⌝ }
 {
     if state == ONCE {
         if scope[i] == 0 {
-            return Met { state: READY, slot: key[i] };
+            return Met {
+                state: READY,
+                slot: key[i],
+            };
         }
-        return Met { state: NEVER, slot: 0 };
+        return Met {
+            state: NEVER,
+            slot: 0,
+        };
     }
     if state == TWICE {
-        return Met { state: HALF, slot: i as u16 };
+        return Met {
+            state: HALF,
+            slot: i as u16,
+        };
     }
     if state == HALF {
         let j = wide(slot);
         if scope[j] == scope[i] {
             if complementary(action[j], action[i]) {
-                return Met { state: READY, slot: key[i] };
+                return Met {
+                    state: READY,
+                    slot: key[i],
+                };
             }
-            return Met { state: NEVER, slot: 0 };
+            return Met {
+                state: NEVER,
+                slot: 0,
+            };
         }
-        return Met { state: NEVER, slot: 0 };
+        return Met {
+            state: NEVER,
+            slot: 0,
+        };
     }
-    Met { state: NEVER, slot: 0 }
+    Met {
+        state: NEVER,
+        slot: 0,
+    }
 }
 
-// Counts the first m keys, then settles the first n rows of lasts, one after the other, at the ranks of their keys.
-pub fn settle(all: &[u16; NODES], m: usize, key: &[u16; NODES], action: &[u8; NODES], scope: &[u16; NODES], n: usize, marks: &[u8; BYTES], base: &[u16; BYTES], state: &mut [u8; NODES], slot: &mut [u16; NODES])
+// Counts the first m keys, then settles the first n rows of lasts, one after the other, at the ranks of their keys. The array of the keys
+// is the array of the slots afterwards.
+pub fn settle(
+    all: &mut [u16; NODES],
+    m: usize,
+    key: &[u16; NODES],
+    action: &[u8; NODES],
+    scope: &[u16; NODES],
+    n: usize,
+    marks: &[u8; BYTES],
+    base: &[u16; BYTES],
+    state: &mut [u8; NODES],
+)
     requires { ⌜ (length (now all) ≡ node-limit) × (m ≤ node-limit) × Small (take m (now all)) × Marks (take m (now all)) (now marks) × Ranked (now marks) (now base) ⌝ }
     requires { ⌜ (length (now key) ≡ node-limit) × (length (now action) ≡ node-limit) × (length (now scope) ≡ node-limit) × (n ≤ node-limit) × AllIn (now marks) (take n (rows (now key) (now action) (now scope))) ⌝ }
-    requires { ⌜ (length (now state) ≡ node-limit) × Counted (now marks) [] (now state) × (length (now slot) ≡ node-limit) ⌝ }
-    ensures { λ _. ⌜ (length (now (state .exit)) ≡ node-limit) × (length (now (slot .exit)) ≡ node-limit) × Settled (now (marks .entry)) (take m (now (all .entry))) (rows (now (key .entry)) (now (action .entry)) (now (scope .entry))) (take n (rows (now (key .entry)) (now (action .entry)) (now (scope .entry)))) (now (state .exit)) (now (slot .exit)) ⌝ }
+    requires { ⌜ (length (now state) ≡ node-limit) × Counted (now marks) [] (now state) ⌝ }
+    ensures { λ _. ⌜ (length (now (state .exit)) ≡ node-limit) × (length (now (all .exit)) ≡ node-limit) × Settled (now (marks .entry)) (take m (now (all .entry))) (rows (now (key .entry)) (now (action .entry)) (now (scope .entry))) (take n (rows (now (key .entry)) (now (action .entry)) (now (scope .entry)))) (now (state .exit)) (now (all .exit)) ⌝ }
 {
     tally(all, m, marks, base, state);
     let mut i: usize = 0;
     while i < n {
         let r = rank(marks, base, key[i]);
-        let met = meet(key, action, scope, i, state[r], slot[r]);
+        let met = meet(key, action, scope, i, state[r], all[r]);
         state[r] = met.state;
-        slot[r] = met.slot;
+        all[r] = met.slot;
         i += 1;
     }
 }

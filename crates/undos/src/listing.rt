@@ -1,9 +1,15 @@
 // The undo listing (01, Operations): the keys whose undo is allowed, ascending, into a lent row.
-use crate::gather::{gather, Outcome, SLOTS};
-use crate::group::{mark_all, settle, READY};
+use crate::gather::Outcome;
+use crate::gather::SLOTS;
+use crate::gather::gather;
+use crate::group::READY;
+use crate::group::mark_all;
+use crate::group::settle;
 use keyset::BYTES;
 use rank::fill;
-use reader::{DEPTH, NODES, NO_RECORD};
+use reader::DEPTH;
+use reader::NO_RECORD;
+use reader::NODES;
 ghost use mathlib.Core.Path.{_≡_};
 ghost use mathlib.Core.List.{List, _++_};
 ghost use Prim.Native.Nat.{ℕ, _+_, _≤_, _<_};
@@ -76,7 +82,15 @@ fn write_ready(state: &[u8; NODES], slot: &[u16; NODES], n: usize, row: &mut [u1
 }
 
 // Lists the keys that can be undone, from the first m keys and the first n lasts that were noted.
-fn list(all: &[u16; NODES], m: usize, key: &[u16; NODES], action: &[u8; NODES], scope: &[u16; NODES], n: usize, row: &mut [u16]) -> Rows
+fn list(
+    all: &mut [u16; NODES],
+    m: usize,
+    key: &[u16; NODES],
+    action: &[u8; NODES],
+    scope: &[u16; NODES],
+    n: usize,
+    row: &mut [u16],
+) -> Rows
     requires { ⌜ (length (now all) ≡ node-limit) × (m ≤ node-limit) × Small (take m (now all)) × Positive (take m (now all)) ⌝ }
     requires { ⌜ (length (now key) ≡ node-limit) × (length (now action) ≡ node-limit) × (length (now scope) ≡ node-limit) × (n ≤ node-limit) × AllAmong (take m (now all)) (take n (rows (now key) (now action) (now scope))) ⌝ }
     ensures { λ r. ⌜ Lines (take m (now (all .entry))) (take n (rows (now (key .entry)) (now (action .entry)) (now (scope .entry)))) (now (row .entry)) (refusal r) (count r) (now (row .exit)) ⌝ }
@@ -86,13 +100,12 @@ fn list(all: &[u16; NODES], m: usize, key: &[u16; NODES], action: &[u8; NODES], 
     let mut base = [0u16; BYTES];
     let total = fill(&marks, &mut base);
     let mut state = [0u8; NODES];
-    let mut slot = [0u16; NODES];
-    settle(all, m, key, action, scope, n, &marks, &base, &mut state, &mut slot);
+    settle(all, m, key, action, scope, n, &marks, &base, &mut state);
     let count = count_ready(&state, total);
     if row.len() < count {
         return Rows::Refused(SHORT_ROW);
     }
-    write_ready(&state, &slot, total, row);
+    write_ready(&state, all, total, row);
     Rows::Listed(count)
 }
 
@@ -105,13 +118,30 @@ pub fn undo_listing(bytes: &[u8], row: &mut [u16]) -> Rows
     let mut action = [0u8; NODES];
     let mut scope = [0u16; NODES];
     let mut scopes = [0u16; SLOTS];
-    match gather(bytes, 0, DEPTH, NODES, 0, 0, &mut all, &mut key, &mut action, &mut scope, &mut scopes) {
+    match gather(
+        bytes,
+        0,
+        DEPTH,
+        NODES,
+        0,
+        0,
+        &mut all,
+        &mut key,
+        &mut action,
+        &mut scope,
+        &mut scopes,
+    ) {
         Outcome::Refused(c) => Rows::Refused(c),
-        Outcome::Part { next, left: _, keys, lasts } => {
+        Outcome::Part {
+            next,
+            left: _,
+            keys,
+            lasts,
+        } => {
             if next < bytes.len() {
                 return Rows::Refused(NO_RECORD);
             }
-            list(&all, keys, &key, &action, &scope, lasts, row)
+            list(&mut all, keys, &key, &action, &scope, lasts, row)
         }
     }
 }

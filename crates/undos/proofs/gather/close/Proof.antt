@@ -1,32 +1,24 @@
+-- `close` meets its contract: one slot of the scopes gets its number back.
 use Rattle.undos.proofs.Notes.{closes}
 use borrow.Author.Needs.{needs}
 use Rattle.undos.proofs.gather.close.Statement.{statement}
 use Rattle.undos.proofs.gather.close.Tie as tie
-use Rattle.undos.proofs.gather.close.Reads as reads
-use Rattle.undos.proofs.gather.close.Lts as lts
-use Rattle.reader.proofs.wide.Reads as wide-reads
 
--- src/gather.rt:56:23
 add-wide : tie.Need-add-wide
 add-wide c = search needs
 
--- src/gather.rt:56:21
 shared-slice-read-wide : tie.Need-shared-slice-read-wide
 shared-slice-read-wide c = search needs
 
--- src/gather.rt:56:16
 wide-requires : tie.Need-wide-requires
 wide-requires c κs = search needs
 
--- src/gather.rt:57:5
 mul-scopes : tie.Need-mul-scopes
 mul-scopes c = search needs
 
--- src/gather.rt:57:5
 element-write-scopes : tie.Need-element-write-scopes
 element-write-scopes c = search needs
 
--- src/gather.rt:52:1
 returns : tie.Need-returns
 returns c = closes (c .before .before .before .args .s .now) (c .before .before .before .args .at) (c .wide .result) (c .before .before .before .args .outer) (c .before .before .before .args .scopes .now) (c .wide .ensures)
 

@@ -1,95 +1,71 @@
+-- `enter` meets its contract: by the kind of the node, one key is noted or one scope changed.
 use mathlib.Core.Path.{refl}
 use native.Mathlib.Omega.{arith}
 use Rattle.undos.proofs.Notes.{enter-undone, enter-done, enter-restriction, enter-two}
 use borrow.Author.Needs.{needs}
 use Rattle.undos.proofs.gather.enter.Statement.{statement}
 use Rattle.undos.proofs.gather.enter.Tie as tie
-use Rattle.undos.proofs.gather.enter.Reads as reads
-use Rattle.undos.proofs.gather.enter.Lts as lts
-use Rattle.reader.proofs.wide.Reads as wide-reads
-use Rattle.survey.proofs.pass.key_of.Reads as key-of-reads
 
--- src/gather.rt:35:28
 add-key-of : tie.Need-add-key-of
 add-key-of c = omega (arith, c .before .before .pre .0 .0 (c .if1 .taken))
 
--- src/gather.rt:35:26
 shared-slice-read-key-of : tie.Need-shared-slice-read-key-of
 shared-slice-read-key-of c = omega (arith, c .before .before .before .pre .0 .0 (c .before .if1 .taken))
 
--- src/gather.rt:35:39
 add-key-of-2 : tie.Need-add-key-of-2
 add-key-of-2 c = omega (arith, c .before .before .before .pre .0 .0 (c .before .if1 .taken))
 
--- src/gather.rt:35:37
 shared-slice-read-key-of-2 : tie.Need-shared-slice-read-key-of-2
 shared-slice-read-key-of-2 c = omega (arith, c .before .before .before .before .pre .0 .0 (c .before .before .if1 .taken))
 
--- src/gather.rt:35:13
 key-of-requires : tie.Need-key-of-requires
 key-of-requires c κs = search needs
 
--- src/gather.rt:37:13
 returns : tie.Need-returns
 returns c = enter-undone (c .before .before .before .before .before .before .args .s .now) (c .before .before .before .before .before .before .args .at) _ _ _ (c .before .before .before .before .before .before .args .all .now) (c .before .before .before .before .before .before .args .scopes .now) _ (c .before .key-of .result) (c .before .before .before .before .if1 .taken) (c .before .key-of .ensures) (c .if2 .taken) refl
 
--- src/gather.rt:39:9
 mul-all : tie.Need-mul-all
 mul-all c = search needs
 
--- src/gather.rt:39:9
 element-write-all : tie.Need-element-write-all
 element-write-all c = search needs
 
--- src/gather.rt:40:32
 add-t15 : tie.Need-add-t15
 add-t15 c = search needs
 
--- src/gather.rt:40:9
 returns-2 : tie.Need-returns-2
 returns-2 c = enter-done (c .before .before .before .before .before .before .args .s .now) (c .before .before .before .before .before .before .args .at) _ _ _ (c .before .before .before .before .before .before .args .all .now) (c .before .before .before .before .before .before .args .scopes .now) _ (c .before .key-of .result) (c .before .before .before .before .if1 .taken) (c .before .key-of .ensures) (c .if2 .left) (omega (arith, c .before .before .before .before .before .before .pre .1)) refl
 
--- src/gather.rt:43:27
 add-wide : tie.Need-add-wide
 add-wide c = omega (arith, c .before .before .before .pre .0 .1 (c .if3 .taken))
 
--- src/gather.rt:43:25
 shared-slice-read-wide : tie.Need-shared-slice-read-wide
 shared-slice-read-wide c = omega (arith, c .before .before .before .before .pre .0 .1 (c .before .if3 .taken))
 
--- src/gather.rt:43:20
 wide-requires : tie.Need-wide-requires
 wide-requires c κs = search needs
 
--- src/gather.rt:44:21
 mul-outer : tie.Need-mul-outer
 mul-outer c = search needs
 
--- src/gather.rt:44:21
 element-copy-out-outer : tie.Need-element-copy-out-outer
 element-copy-out-outer c = search needs
 
--- src/gather.rt:45:25
 add-scopes : tie.Need-add-scopes
 add-scopes c = search needs
 
--- src/gather.rt:45:24
 cast-scopes : tie.Need-cast-scopes
 cast-scopes c = search needs
 
--- src/gather.rt:45:9
 mul-scopes : tie.Need-mul-scopes
 mul-scopes c = search needs
 
--- src/gather.rt:45:9
 element-write-scopes : tie.Need-element-write-scopes
 element-write-scopes c = search needs
 
--- src/gather.rt:46:9
 returns-3 : tie.Need-returns-3
 returns-3 c = enter-restriction (c .before .before .before .before .before .before .args .s .now) (c .before .before .before .before .before .before .args .at) _ _ _ (c .before .before .before .before .before .before .args .all .now) (c .before .before .before .before .before .before .args .scopes .now) _ (c .before .wide .result) (c .before .before .before .if3 .taken) (c .before .wide .ensures) refl refl
 
--- src/gather.rt:29:1
 returns-4 : tie.Need-returns-4
 returns-4 c = enter-two (c .before .before .before .args .s .now) (c .before .before .before .args .at) _ _ _ (c .before .before .before .args .all .now) (c .before .before .before .args .scopes .now) _ (c .before .if1 .left) (c .if3 .left) refl
 

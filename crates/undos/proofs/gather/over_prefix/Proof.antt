@@ -1,3 +1,4 @@
+-- `over_prefix` meets its contract: none stays, the prefix itself is pushed, or those below stay.
 use Prim.Native.Nat.{_+_, _%_}
 use lib.ListN.{getD, length-set}
 use mathlib.Core.Path.{refl}
@@ -7,92 +8,67 @@ use Rattle.undos.proofs.Notes.{over-undone, over-own, over-below}
 use borrow.Author.Needs.{needs}
 use Rattle.undos.proofs.gather.over_prefix.Statement.{statement}
 use Rattle.undos.proofs.gather.over_prefix.Tie as tie
-use Rattle.undos.proofs.gather.over_prefix.Reads as reads
-use Rattle.undos.proofs.gather.over_prefix.Lts as lts
-use Rattle.reader.proofs.wide.Reads as wide-reads
-use Rattle.survey.proofs.pass.key_of.Reads as key-of-reads
 
--- src/gather.rt:66:24
 add-key-of : tie.Need-add-key-of
 add-key-of c = search needs
 
--- src/gather.rt:66:22
 shared-slice-read-key-of : tie.Need-shared-slice-read-key-of
 shared-slice-read-key-of c = search needs
 
--- src/gather.rt:66:35
 add-key-of-2 : tie.Need-add-key-of-2
 add-key-of-2 c = search needs
 
--- src/gather.rt:66:33
 shared-slice-read-key-of-2 : tie.Need-shared-slice-read-key-of-2
 shared-slice-read-key-of-2 c = search needs
 
--- src/gather.rt:66:9
 key-of-requires : tie.Need-key-of-requires
 key-of-requires c κs = search needs
 
--- src/gather.rt:68:9
 returns : tie.Need-returns
 returns c = (over-undone (c .before .before .before .before .before .args .s .now) (c .before .before .before .before .before .args .at) (c .before .before .before .before .before .args .keys) (c .before .before .before .before .before .args .k) (c .before .before .before .before .before .args .lasts) (c .before .before .before .before .before .args .l) (c .before .before .before .before .before .args .key .now) (c .before .before .before .before .before .args .action .now) (c .before .before .before .before .before .args .scope .now) (c .before .before .before .before .before .args .scopes .now) (c .before .key-of .result) (c .before .key-of .ensures) (c .if1 .taken), c .before .before .before .before .before .pre .1 .0, c .before .before .before .before .before .pre .1 .1, c .before .before .before .before .before .pre .1 .2)
 
--- src/gather.rt:71:9
 mul-key : tie.Need-mul-key
 mul-key c = search needs
 
--- src/gather.rt:71:9
 element-write-key : tie.Need-element-write-key
 element-write-key c = search needs
 
--- src/gather.rt:72:27
 add-action : tie.Need-add-action
 add-action c = search needs
 
--- src/gather.rt:72:25
 shared-slice-read-action : tie.Need-shared-slice-read-action
 shared-slice-read-action c = search needs
 
--- src/gather.rt:72:9
 element-write-action : tie.Need-element-write-action
 element-write-action c = search needs
 
--- src/gather.rt:73:38
 add-wide : tie.Need-add-wide
 add-wide c = search needs
 
--- src/gather.rt:73:36
 shared-slice-read-wide : tie.Need-shared-slice-read-wide
 shared-slice-read-wide c = search needs
 
--- src/gather.rt:73:31
 wide-requires : tie.Need-wide-requires
 wide-requires c κs = search needs
 
--- src/gather.rt:73:24
 mul-scope : tie.Need-mul-scope
 mul-scope c = search needs
 
--- src/gather.rt:73:24
 element-copy-out-scope : tie.Need-element-copy-out-scope
 element-copy-out-scope c = search needs
 
--- src/gather.rt:73:9
 mul-scope-2 : tie.Need-mul-scope-2
 mul-scope-2 c = search needs
 
--- src/gather.rt:73:9
 element-write-scope : tie.Need-element-write-scope
 element-write-scope c = search needs
 
--- src/gather.rt:74:16
 add-result : tie.Need-add-result
 add-result c = search needs
 
--- src/gather.rt:74:9
 returns-2 : tie.Need-returns-2
 returns-2 c = (over-own (c .before .before .before .before .before .before .before .before .before .before .args .s .now) (c .before .before .before .before .before .before .before .before .before .before .args .at) (c .before .before .before .before .before .before .before .before .before .before .args .keys) (c .before .before .before .before .before .before .before .before .before .before .args .k) (c .before .before .before .before .before .before .before .before .before .before .args .lasts) (c .before .before .before .before .before .before .before .before .before .before .args .l) (c .before .before .before .before .before .before .before .before .before .before .args .key .now) (c .before .before .before .before .before .before .before .before .before .before .args .action .now) (c .before .before .before .before .before .before .before .before .before .before .args .scope .now) (c .before .before .before .before .before .before .before .before .before .before .args .scopes .now) (c .before .before .before .before .before .before .key-of .result) (c .before .before .before .before .before .before .key-of .ensures) (getD (c .before .before .before .before .before .before .before .before .before .before .args .s .now) (c .before .before .before .before .before .before .before .before .before .before .args .at + 1) 0) (c .before .wide .result) (getD (c .before .before .before .before .before .before .before .before .before .before .args .scopes .now) (c .before .wide .result % 128) 0) (c .before .before .before .before .before .if1 .left) (c .before .before .before .before .if2 .taken) (omega (arith, rows-length 4096 (c .before .before .before .before .before .before .before .before .before .before .args .key .now) (c .before .before .before .before .before .before .before .before .before .before .args .action .now) (c .before .before .before .before .before .before .before .before .before .before .args .scope .now) (c .before .before .before .before .before .before .before .before .before .before .pre .1 .0) (c .before .before .before .before .before .before .before .before .before .before .pre .1 .1) (c .before .before .before .before .before .before .before .before .before .before .pre .1 .2), c .before .before .before .before .before .before .before .before .before .before .pre .0 .1)) refl (c .before .wide .ensures) refl, simp length-set (c .before .before .before .before .before .before .before .before .before .before .pre .1 .0), simp length-set (c .before .before .before .before .before .before .before .before .before .before .pre .1 .1), simp length-set (c .before .before .before .before .before .before .before .before .before .before .pre .1 .2))
 
--- src/gather.rt:61:1
 returns-3 : tie.Need-returns-3
 returns-3 c = (over-below (c .before .before .before .before .before .before .args .s .now) (c .before .before .before .before .before .before .args .at) (c .before .before .before .before .before .before .args .keys) (c .before .before .before .before .before .before .args .k) (c .before .before .before .before .before .before .args .lasts) (c .before .before .before .before .before .before .args .l) (c .before .before .before .before .before .before .args .key .now) (c .before .before .before .before .before .before .args .action .now) (c .before .before .before .before .before .before .args .scope .now) (c .before .before .before .before .before .before .args .scopes .now) (c .before .before .key-of .result) (c .before .before .key-of .ensures) (c .before .if1 .left) (c .if2 .left), c .before .before .before .before .before .before .pre .1 .0, c .before .before .before .before .before .before .pre .1 .1, c .before .before .before .before .before .before .pre .1 .2)
 

@@ -1,22 +1,17 @@
+-- `over_two` meets its contract: a choice with keys on both sides is cut back, all else stays.
 use Rattle.undos.proofs.Notes.{two-left, two-right, two-none, two-all}
 use Rattle.undos.proofs.gather.over_two.Statement.{statement}
 use Rattle.undos.proofs.gather.over_two.Tie as tie
-use Rattle.undos.proofs.gather.over_two.Reads as reads
-use Rattle.undos.proofs.gather.over_two.Lts as lts
 
--- src/gather.rt:85:13
 returns : tie.Need-returns
 returns c = two-left _ _ _ _ _ _ (c .before .if1 .taken) (c .if2 .taken)
 
--- src/gather.rt:88:13
 returns-2 : tie.Need-returns-2
 returns-2 c = two-right _ _ _ _ _ _ (c .before .before .if1 .taken) (c .before .if2 .left) (c .if3 .taken)
 
--- src/gather.rt:90:9
 returns-3 : tie.Need-returns-3
 returns-3 c = two-none _ _ _ _ _ _ (c .before .before .if1 .taken) (c .before .if2 .left) (c .if3 .left)
 
--- src/gather.rt:80:1
 returns-4 : tie.Need-returns-4
 returns-4 c = two-all (c .before .args .kind) (c .before .args .k0) (c .before .args .k1) (c .before .args .k2) (c .before .args .l0) (c .before .args .l2) (c .if1 .left)
 

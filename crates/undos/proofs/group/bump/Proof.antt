@@ -1,20 +1,16 @@
+-- `bump` meets its contract: a count rises up to three.
 use native.Mathlib.Omega.{arith}
 use Rattle.undos.proofs.Groups.{bump-low, bump-high}
 use borrow.Author.Needs.{needs}
 use Rattle.undos.proofs.group.bump.Statement.{statement}
 use Rattle.undos.proofs.group.bump.Tie as tie
-use Rattle.undos.proofs.group.bump.Reads as reads
-use Rattle.undos.proofs.group.bump.Lts as lts
 
--- src/group.rt:59:16
 add-result : tie.Need-add-result
 add-result c = search needs
 
--- src/group.rt:59:9
 returns : tie.Need-returns
 returns c = bump-low _ (c .if1 .taken)
 
--- src/group.rt:55:1
 returns-2 : tie.Need-returns-2
 returns-2 c = bump-high (c .before .args .state) (omega arith)
 

@@ -1,3 +1,4 @@
+-- `meet` meets its contract: a law for each state that a key can be in.
 use mathlib.Core.Path.{refl}
 use native.Mathlib.Omega.{arith}
 use lib.ListN.{getD}
@@ -8,96 +9,70 @@ use Rattle.undos.proofs.Groups.{met-free, met-scoped, met-half, met-pai
 use borrow.Author.Needs.{needs}
 use Rattle.undos.proofs.group.meet.Statement.{statement}
 use Rattle.undos.proofs.group.meet.Tie as tie
-use Rattle.undos.proofs.group.meet.Reads as reads
-use Rattle.undos.proofs.group.meet.Lts as lts
-use Rattle.survey.proofs.seen.complementary.Reads as complementary-reads
-use Rattle.undos.proofs.group.wide.Reads as wide-reads
 
--- src/group.rt:86:12
 mul-if2 : tie.Need-mul-if2
 mul-if2 c = search needs
 
--- src/group.rt:86:12
 element-copy-out-if2 : tie.Need-element-copy-out-if2
 element-copy-out-if2 c = search needs
 
--- src/group.rt:87:46
 mul-t14 : tie.Need-mul-t14
 mul-t14 c = search needs
 
--- src/group.rt:87:46
 element-copy-out-t17 : tie.Need-element-copy-out-t17
 element-copy-out-t17 c = search needs
 
--- src/group.rt:87:13
 returns : tie.Need-returns
 returns c = λ m x u. met-free (rows (c .before .before .before .before .args .key .now) (c .before .before .before .before .args .action .now) (c .before .before .before .before .args .scope .now)) (getD (c .before .before .before .before .args .key .now) (c .before .before .before .before .args .i) 0) (record { key = getD (c .before .before .before .before .args .key .now) (c .before .before .before .before .args .i) 0; action = getD (c .before .before .before .before .args .action .now) (c .before .before .before .before .args .i) 0; scope = getD (c .before .before .before .before .args .scope .now) (c .before .before .before .before .args .i) 0 }) u (c .before .before .before .if1 .taken) (c .before .if2 .taken) _ refl
 
--- src/group.rt:89:9
 returns-2 : tie.Need-returns-2
 returns-2 c = λ m x u. met-scoped (rows (c .before .before .before .args .key .now) (c .before .before .before .args .action .now) (c .before .before .before .args .scope .now)) (getD (c .before .before .before .args .key .now) (c .before .before .before .args .i) 0) (record { key = getD (c .before .before .before .args .key .now) (c .before .before .before .args .i) 0; action = getD (c .before .before .before .args .action .now) (c .before .before .before .args .i) 0; scope = getD (c .before .before .before .args .scope .now) (c .before .before .before .args .i) 0 }) u (c .before .before .if1 .taken) (c .if2 .left) _
 
--- src/group.rt:92:41
 cast-t18 : tie.Need-cast-t18
 cast-t18 c = search needs
 
--- src/group.rt:92:9
 returns-3 : tie.Need-returns-3
 returns-3 c = λ m x u. met-half (rows (c .before .before .args .key .now) (c .before .before .args .action .now) (c .before .before .args .scope .now)) (getD (c .before .before .args .key .now) (c .before .before .args .i) 0) (record { key = getD (c .before .before .args .key .now) (c .before .before .args .i) 0; action = getD (c .before .before .args .action .now) (c .before .before .args .i) 0; scope = getD (c .before .before .args .scope .now) (c .before .before .args .i) 0 }) u (c .if3 .taken) (c .before .before .args .i) (c .before .before .pre .1 .0) (rows-at node-limit (c .before .before .args .key .now) (c .before .before .args .action .now) (c .before .before .args .scope .now) (c .before .before .args .i) (record { key = getD (c .before .before .args .key .now) (c .before .before .args .i) 0; action = getD (c .before .before .args .action .now) (c .before .before .args .i) 0; scope = getD (c .before .before .args .scope .now) (c .before .before .args .i) 0 }) (c .before .before .pre .0 .0) (c .before .before .pre .0 .1) (c .before .before .pre .0 .2) (c .before .before .pre .1 .0))
 
--- src/group.rt:95:13
 wide-requires : tie.Need-wide-requires
 wide-requires c κs = search needs
 
--- src/group.rt:96:12
 mul-if5 : tie.Need-mul-if5
 mul-if5 c = search needs
 
--- src/group.rt:96:12
 element-copy-out-if5 : tie.Need-element-copy-out-if5
 element-copy-out-if5 c = omega (arith, c .before .before .before .before .pre .1 .1 (c .before .if4 .taken), c .wide .ensures, c .before .before .before .before .pre .0)
 
--- src/group.rt:96:24
 mul-if5-2 : tie.Need-mul-if5-2
 mul-if5-2 c = search needs
 
--- src/group.rt:96:24
 element-copy-out-if5-2 : tie.Need-element-copy-out-if5-2
 element-copy-out-if5-2 c = search needs
 
--- src/group.rt:97:30
 element-copy-out-complementary : tie.Need-element-copy-out-complementary
 element-copy-out-complementary c = omega (arith, c .before .before .before .before .before .before .before .pre .1 .1 (c .before .before .before .before .if4 .taken), c .before .before .before .wide .ensures, c .before .before .before .before .before .before .before .pre .0)
 
--- src/group.rt:97:41
 element-copy-out-complementary-2 : tie.Need-element-copy-out-complementary-2
 element-copy-out-complementary-2 c = search needs
 
--- src/group.rt:97:16
 complementary-requires : tie.Need-complementary-requires
 complementary-requires c κs = search needs
 
--- src/group.rt:98:50
 mul-t35 : tie.Need-mul-t35
 mul-t35 c = search needs
 
--- src/group.rt:98:50
 element-copy-out-t38 : tie.Need-element-copy-out-t38
 element-copy-out-t38 c = search needs
 
--- src/group.rt:98:17
 returns-4 : tie.Need-returns-4
 returns-4 c = λ m x u. met-pair (rows (c .before .before .before .before .before .before .before .before .before .before .before .before .args .key .now) (c .before .before .before .before .before .before .before .before .before .before .before .before .args .action .now) (c .before .before .before .before .before .before .before .before .before .before .before .before .args .scope .now)) (getD (c .before .before .before .before .before .before .before .before .before .before .before .before .args .key .now) (c .before .before .before .before .before .before .before .before .before .before .before .before .args .i) 0) (record { key = getD (c .before .before .before .before .before .before .before .before .before .before .before .before .args .key .now) (c .before .before .before .before .before .before .before .before .before .before .before .before .args .i) 0; action = getD (c .before .before .before .before .before .before .before .before .before .before .before .before .args .action .now) (c .before .before .before .before .before .before .before .before .before .before .before .before .args .i) 0; scope = getD (c .before .before .before .before .before .before .before .before .before .before .before .before .args .scope .now) (c .before .before .before .before .before .before .before .before .before .before .before .before .args .i) 0 }) u (c .before .before .before .before .before .before .before .before .before .if4 .taken) (pair-fits (c .before .before .before .before .before .before .before .before .before .before .before .before .args .key .now) (c .before .before .before .before .before .before .before .before .before .before .before .before .args .action .now) (c .before .before .before .before .before .before .before .before .before .before .before .before .args .scope .now) (c .before .before .before .before .before .before .before .before .before .before .before .before .pre .0 .0) (c .before .before .before .before .before .before .before .before .before .before .before .before .pre .0 .1) (c .before .before .before .before .before .before .before .before .before .before .before .before .pre .0 .2) (c .before .before .before .before .before .before .before .before .before .before .before .before .args .slot) (c .before .before .before .before .before .before .before .before .wide .result) (c .before .before .before .before .before .before .before .before .before .before .before .before .args .i) (c .before .before .before .before .before .before .before .before .wide .ensures) (c .before .before .complementary .result) (c .before .before .complementary .ensures) (c .before .if6 .taken) (c .before .before .before .before .before .if5 .taken)) _ refl
 
--- src/group.rt:100:13
 returns-5 : tie.Need-returns-5
 returns-5 c = λ m x u. met-apart (rows (c .before .before .before .before .before .before .before .before .before .before .before .args .key .now) (c .before .before .before .before .before .before .before .before .before .before .before .args .action .now) (c .before .before .before .before .before .before .before .before .before .before .before .args .scope .now)) (getD (c .before .before .before .before .before .before .before .before .before .before .before .args .key .now) (c .before .before .before .before .before .before .before .before .before .before .before .args .i) 0) (record { key = getD (c .before .before .before .before .before .before .before .before .before .before .before .args .key .now) (c .before .before .before .before .before .before .before .before .before .before .before .args .i) 0; action = getD (c .before .before .before .before .before .before .before .before .before .before .before .args .action .now) (c .before .before .before .before .before .before .before .before .before .before .before .args .i) 0; scope = getD (c .before .before .before .before .before .before .before .before .before .before .before .args .scope .now) (c .before .before .before .before .before .before .before .before .before .before .before .args .i) 0 }) u (c .before .before .before .before .before .before .before .before .if4 .taken) (pair-labels (c .before .before .before .before .before .before .before .before .before .before .before .args .key .now) (c .before .before .before .before .before .before .before .before .before .before .before .args .action .now) (c .before .before .before .before .before .before .before .before .before .before .before .args .scope .now) (c .before .before .before .before .before .before .before .before .before .before .before .pre .0 .0) (c .before .before .before .before .before .before .before .before .before .before .before .pre .0 .1) (c .before .before .before .before .before .before .before .before .before .before .before .pre .0 .2) (c .before .before .before .before .before .before .before .before .before .before .before .args .slot) (c .before .before .before .before .before .before .before .wide .result) (c .before .before .before .before .before .before .before .before .before .before .before .args .i) (c .before .before .before .before .before .before .before .wide .ensures) (c .before .complementary .result) (c .before .complementary .ensures) (c .if6 .left)) _
 
--- src/group.rt:102:9
 returns-6 : tie.Need-returns-6
 returns-6 c = λ m x u. met-apart (rows (c .before .before .before .before .before .before .before .args .key .now) (c .before .before .before .before .before .before .before .args .action .now) (c .before .before .before .before .before .before .before .args .scope .now)) (getD (c .before .before .before .before .before .before .before .args .key .now) (c .before .before .before .before .before .before .before .args .i) 0) (record { key = getD (c .before .before .before .before .before .before .before .args .key .now) (c .before .before .before .before .before .before .before .args .i) 0; action = getD (c .before .before .before .before .before .before .before .args .action .now) (c .before .before .before .before .before .before .before .args .i) 0; scope = getD (c .before .before .before .before .before .before .before .args .scope .now) (c .before .before .before .before .before .before .before .args .i) 0 }) u (c .before .before .before .before .if4 .taken) (pair-scopes (c .before .before .before .before .before .before .before .args .key .now) (c .before .before .before .before .before .before .before .args .action .now) (c .before .before .before .before .before .before .before .args .scope .now) (c .before .before .before .before .before .before .before .pre .0 .0) (c .before .before .before .before .before .before .before .pre .0 .1) (c .before .before .before .before .before .before .before .pre .0 .2) (c .before .before .before .before .before .before .before .args .slot) (c .before .before .before .wide .result) (c .before .before .before .before .before .before .before .args .i) (c .before .before .before .wide .ensures) (c .if5 .left)) _
 
--- src/group.rt:80:1
 returns-7 : tie.Need-returns-7
 returns-7 c = λ m x u. met-over (rows (c .before .before .before .args .key .now) (c .before .before .before .args .action .now) (c .before .before .before .args .scope .now)) (getD (c .before .before .before .args .key .now) (c .before .before .before .args .i) 0) (record { key = getD (c .before .before .before .args .key .now) (c .before .before .before .args .i) 0; action = getD (c .before .before .before .args .action .now) (c .before .before .before .args .i) 0; scope = getD (c .before .before .before .args .scope .now) (c .before .before .before .args .i) 0 }) u (c .before .before .if1 .left) (c .before .if3 .left) (c .if4 .left) _
 

@@ -1,44 +1,34 @@
+-- `put` meets its contract: one more key in the row, or none.
 use native.Mathlib.Omega.{arith}
 use Rattle.undos.proofs.Listings.{put-ready, put-other}
 use borrow.Author.Needs.{needs}
 use Rattle.undos.proofs.listing.put.Statement.{statement}
 use Rattle.undos.proofs.listing.put.Tie as tie
-use Rattle.undos.proofs.listing.put.Reads as reads
-use Rattle.undos.proofs.listing.put.Lts as lts
 
--- src/listing.rt:56:8
 element-copy-out-if1 : tie.Need-element-copy-out-if1
 element-copy-out-if1 c = search needs
 
--- src/listing.rt:57:18
 mul-row : tie.Need-mul-row
 mul-row c = search needs
 
--- src/listing.rt:57:18
 element-copy-out-row : tie.Need-element-copy-out-row
 element-copy-out-row c = search needs
 
--- src/listing.rt:57:9
 mul-row-2 : tie.Need-mul-row-2
 mul-row-2 c = search needs
 
--- src/listing.rt:57:9
 slice-write-row : tie.Need-slice-write-row
 slice-write-row c = omega (arith, c .before .before .before .pre .1 .0 (c .before .if1 .taken))
 
--- src/listing.rt:58:16
 add-result : tie.Need-add-result
 add-result c = search needs
 
--- src/listing.rt:58:9
 same-length : tie.Need-same-length
 same-length c = search needs
 
--- src/listing.rt:58:9
 returns : tie.Need-returns
 returns c = put-ready (c .before .before .before .args .state .now) (c .before .before .before .args .slot .now) (c .before .before .before .args .r) (c .before .before .before .args .row .now) (c .before .before .before .args .m) (c .before .if1 .taken) (c .before .before .before .pre .1 .0 (c .before .if1 .taken))
 
--- src/listing.rt:51:1
 returns-2 : tie.Need-returns-2
 returns-2 c = put-other (c .before .before .args .state .now) (c .before .before .args .slot .now) (c .before .before .args .r) (c .before .before .args .row .now) (c .before .before .args .m) (c .if1 .left)
 

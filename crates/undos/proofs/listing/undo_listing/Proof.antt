@@ -1,3 +1,4 @@
+-- `undo_listing` meets its contract: what the pass notes are the keys and the lasts of the record's term.
 use mathlib.Core.Path.{refl}
 use native.Mathlib.Omega.{arith}
 use lib.ListN.{replicate}
@@ -8,40 +9,28 @@ use Rattle.undos.proofs.Whole.{listing-refused, listing-trailing, all-w
 use borrow.Author.Needs.{needs}
 use Rattle.undos.proofs.listing.undo_listing.Statement.{statement}
 use Rattle.undos.proofs.listing.undo_listing.Tie as tie
-use Rattle.undos.proofs.listing.undo_listing.Reads as reads
-use Rattle.undos.proofs.listing.undo_listing.Lts as lts
-use Rattle.undos.proofs.gather.gather.Reads as gather-reads
-use Rattle.undos.proofs.listing.list.Reads as list-reads
 
--- src/listing.rt:108:11
 gather-requires : tie.Need-gather-requires
 gather-requires c κs = search needs
 
--- src/listing.rt:109:26
 enum-known-c : tie.Need-enum-known-c
 enum-known-c c = search needs
 
--- src/listing.rt:110:25
 enum-known-next : tie.Need-enum-known-next
 enum-known-next c = search needs
 
--- src/listing.rt:112:17
 returns : tie.Need-returns
 returns c = listing-trailing (c .before .before .before .before .before .before .before .before .before .before .before .before .args .bytes .now) (bytes-of (c .before .before .before .before .before .before .before .before .before .before .before .before .args .bytes .now) (λ i. omega (arith, c .before .before .before .before .before .before .before .before .before .before .before .shared-slice-known .given i))) (arrays (replicate 128 0) (replicate 4096 0) (rows (replicate 4096 0) (replicate 4096 0) (replicate 4096 0))) (arrays (c .before .before .before .before .gather .last .1 .1 .1 .1 .1 .1 .1 .1 .1 .1 .0) (c .before .before .before .before .gather .last .1 .1 .1 .1 .1 .1 .0) (rows (c .before .before .before .before .gather .last .1 .1 .1 .1 .1 .1 .1 .0) (c .before .before .before .before .gather .last .1 .1 .1 .1 .1 .1 .1 .1 .0) (c .before .before .before .before .gather .last .1 .1 .1 .1 .1 .1 .1 .1 .1 .0))) (Sized (c .before .before .before .before .gather .last .1 .1 .1 .1 .1 .1 .1 .1 .1 .1 .0) (c .before .before .before .before .gather .last .1 .1 .1 .1 .1 .1 .0) (c .before .before .before .before .gather .last .1 .1 .1 .1 .1 .1 .1 .0) (c .before .before .before .before .gather .last .1 .1 .1 .1 .1 .1 .1 .1 .0) (c .before .before .before .before .gather .last .1 .1 .1 .1 .1 .1 .1 .1 .1 .0)) (c .before .before .before .before .gather .result) (c .before .before .before .before .gather .ensures) (c .before .before .before .before .before .before .before .before .before .before .before .before .args .row .now) _ _ _ _ (c .before .before .next .given .1) (c .if1 .taken)
 
--- src/listing.rt:114:13
 list-requires : tie.Need-list-requires
 list-requires c κs = let z = all-whole (c .before .before .before .before .before .before .before .before .before .before .before .before .before .before .before .before .before .args .bytes .now) (bytes-of (c .before .before .before .before .before .before .before .before .before .before .before .before .before .before .before .before .before .args .bytes .now) (λ i. omega (arith, c .before .before .before .before .before .before .before .before .before .before .before .before .before .before .before .before .shared-slice-known .given i))) (arrays (replicate 128 0) (replicate 4096 0) (rows (replicate 4096 0) (replicate 4096 0) (replicate 4096 0))) (arrays (c .before .before .before .before .before .before .before .before .before .gather .last .1 .1 .1 .1 .1 .1 .1 .1 .1 .1 .0) (c .before .before .before .before .before .before .before .before .before .gather .last .1 .1 .1 .1 .1 .1 .0) (rows (c .before .before .before .before .before .before .before .before .before .gather .last .1 .1 .1 .1 .1 .1 .1 .0) (c .before .before .before .before .before .before .before .before .before .gather .last .1 .1 .1 .1 .1 .1 .1 .1 .0) (c .before .before .before .before .before .before .before .before .before .gather .last .1 .1 .1 .1 .1 .1 .1 .1 .1 .0))) (Sized (c .before .before .before .before .before .before .before .before .before .gather .last .1 .1 .1 .1 .1 .1 .1 .1 .1 .1 .0) (c .before .before .before .before .before .before .before .before .before .gather .last .1 .1 .1 .1 .1 .1 .0) (c .before .before .before .before .before .before .before .before .before .gather .last .1 .1 .1 .1 .1 .1 .1 .0) (c .before .before .before .before .before .before .before .before .before .gather .last .1 .1 .1 .1 .1 .1 .1 .1 .0) (c .before .before .before .before .before .before .before .before .before .gather .last .1 .1 .1 .1 .1 .1 .1 .1 .1 .0)) (c .before .before .before .before .before .before .before .before .before .gather .result) (c .before .before .before .before .before .before .before .before .before .gather .ensures) (c .before .before .before .before .before .before .before .before .before .before .before .before .before .before .before .before .before .args .row .now) _ _ _ _ (c .before .before .before .before .before .before .before .next .given .1) in let n = counts-within (c .before .before .before .before .before .before .before .before .before .before .before .before .before .before .before .before .before .args .bytes .now) (bytes-of (c .before .before .before .before .before .before .before .before .before .before .before .before .before .before .before .before .before .args .bytes .now) (λ i. omega (arith, c .before .before .before .before .before .before .before .before .before .before .before .before .before .before .before .before .shared-slice-known .given i))) (arrays (replicate 128 0) (replicate 4096 0) (rows (replicate 4096 0) (replicate 4096 0) (replicate 4096 0))) (arrays (c .before .before .before .before .before .before .before .before .before .gather .last .1 .1 .1 .1 .1 .1 .1 .1 .1 .1 .0) (c .before .before .before .before .before .before .before .before .before .gather .last .1 .1 .1 .1 .1 .1 .0) (rows (c .before .before .before .before .before .before .before .before .before .gather .last .1 .1 .1 .1 .1 .1 .1 .0) (c .before .before .before .before .before .before .before .before .before .gather .last .1 .1 .1 .1 .1 .1 .1 .1 .0) (c .before .before .before .before .before .before .before .before .before .gather .last .1 .1 .1 .1 .1 .1 .1 .1 .1 .0))) (Sized (c .before .before .before .before .before .before .before .before .before .gather .last .1 .1 .1 .1 .1 .1 .1 .1 .1 .1 .0) (c .before .before .before .before .before .before .before .before .before .gather .last .1 .1 .1 .1 .1 .1 .0) (c .before .before .before .before .before .before .before .before .before .gather .last .1 .1 .1 .1 .1 .1 .1 .0) (c .before .before .before .before .before .before .before .before .before .gather .last .1 .1 .1 .1 .1 .1 .1 .1 .0) (c .before .before .before .before .before .before .before .before .before .gather .last .1 .1 .1 .1 .1 .1 .1 .1 .1 .0)) (c .before .before .before .before .before .before .before .before .before .gather .result) (c .before .before .before .before .before .before .before .before .before .gather .ensures) (c .before .before .before .before .before .before .before .before .before .before .before .before .before .before .before .before .before .args .row .now) _ _ _ _ (c .before .before .before .before .before .before .before .next .given .1) in ((z .1, n .0, keys-small (c .before .before .before .before .before .before .before .before .before .before .before .before .before .before .before .before .before .args .bytes .now) (bytes-of (c .before .before .before .before .before .before .before .before .before .before .before .before .before .before .before .before .before .args .bytes .now) (λ i. omega (arith, c .before .before .before .before .before .before .before .before .before .before .before .before .before .before .before .before .shared-slice-known .given i))) (arrays (replicate 128 0) (replicate 4096 0) (rows (replicate 4096 0) (replicate 4096 0) (replicate 4096 0))) (arrays (c .before .before .before .before .before .before .before .before .before .gather .last .1 .1 .1 .1 .1 .1 .1 .1 .1 .1 .0) (c .before .before .before .before .before .before .before .before .before .gather .last .1 .1 .1 .1 .1 .1 .0) (rows (c .before .before .before .before .before .before .before .before .before .gather .last .1 .1 .1 .1 .1 .1 .1 .0) (c .before .before .before .before .before .before .before .before .before .gather .last .1 .1 .1 .1 .1 .1 .1 .1 .0) (c .before .before .before .before .before .before .before .before .before .gather .last .1 .1 .1 .1 .1 .1 .1 .1 .1 .0))) (Sized (c .before .before .before .before .before .before .before .before .before .gather .last .1 .1 .1 .1 .1 .1 .1 .1 .1 .1 .0) (c .before .before .before .before .before .before .before .before .before .gather .last .1 .1 .1 .1 .1 .1 .0) (c .before .before .before .before .before .before .before .before .before .gather .last .1 .1 .1 .1 .1 .1 .1 .0) (c .before .before .before .before .before .before .before .before .before .gather .last .1 .1 .1 .1 .1 .1 .1 .1 .0) (c .before .before .before .before .before .before .before .before .before .gather .last .1 .1 .1 .1 .1 .1 .1 .1 .1 .0)) (c .before .before .before .before .before .before .before .before .before .gather .result) (c .before .before .before .before .before .before .before .before .before .gather .ensures) (c .before .before .before .before .before .before .before .before .before .before .before .before .before .before .before .before .before .args .row .now) _ _ _ _ (c .before .before .before .before .before .before .before .next .given .1) refl (c .before .before .before .before .before .if1 .left), keys-positive (c .before .before .before .before .before .before .before .before .before .before .before .before .before .before .before .before .before .args .bytes .now) (bytes-of (c .before .before .before .before .before .before .before .before .before .before .before .before .before .before .before .before .before .args .bytes .now) (λ i. omega (arith, c .before .before .before .before .before .before .before .before .before .before .before .before .before .before .before .before .shared-slice-known .given i))) (arrays (replicate 128 0) (replicate 4096 0) (rows (replicate 4096 0) (replicate 4096 0) (replicate 4096 0))) (arrays (c .before .before .before .before .before .before .before .before .before .gather .last .1 .1 .1 .1 .1 .1 .1 .1 .1 .1 .0) (c .before .before .before .before .before .before .before .before .before .gather .last .1 .1 .1 .1 .1 .1 .0) (rows (c .before .before .before .before .before .before .before .before .before .gather .last .1 .1 .1 .1 .1 .1 .1 .0) (c .before .before .before .before .before .before .before .before .before .gather .last .1 .1 .1 .1 .1 .1 .1 .1 .0) (c .before .before .before .before .before .before .before .before .before .gather .last .1 .1 .1 .1 .1 .1 .1 .1 .1 .0))) (Sized (c .before .before .before .before .before .before .before .before .before .gather .last .1 .1 .1 .1 .1 .1 .1 .1 .1 .1 .0) (c .before .before .before .before .before .before .before .before .before .gather .last .1 .1 .1 .1 .1 .1 .0) (c .before .before .before .before .before .before .before .before .before .gather .last .1 .1 .1 .1 .1 .1 .1 .0) (c .before .before .before .before .before .before .before .before .before .gather .last .1 .1 .1 .1 .1 .1 .1 .1 .0) (c .before .before .before .before .before .before .before .before .before .gather .last .1 .1 .1 .1 .1 .1 .1 .1 .1 .0)) (c .before .before .before .before .before .before .before .before .before .gather .result) (c .before .before .before .before .before .before .before .before .before .gather .ensures) (c .before .before .before .before .before .before .before .before .before .before .before .before .before .before .before .before .before .args .row .now) _ _ _ _ (c .before .before .before .before .before .before .before .next .given .1) refl (c .before .before .before .before .before .if1 .left)), (z .2, z .3, z .4, n .1, keys-among (c .before .before .before .before .before .before .before .before .before .before .before .before .before .before .before .before .before .args .bytes .now) (bytes-of (c .before .before .before .before .before .before .before .before .before .before .before .before .before .before .before .before .before .args .bytes .now) (λ i. omega (arith, c .before .before .before .before .before .before .before .before .before .before .before .before .before .before .before .before .shared-slice-known .given i))) (arrays (replicate 128 0) (replicate 4096 0) (rows (replicate 4096 0) (replicate 4096 0) (replicate 4096 0))) (arrays (c .before .before .before .before .before .before .before .before .before .gather .last .1 .1 .1 .1 .1 .1 .1 .1 .1 .1 .0) (c .before .before .before .before .before .before .before .before .before .gather .last .1 .1 .1 .1 .1 .1 .0) (rows (c .before .before .before .before .before .before .before .before .before .gather .last .1 .1 .1 .1 .1 .1 .1 .0) (c .before .before .before .before .before .before .before .before .before .gather .last .1 .1 .1 .1 .1 .1 .1 .1 .0) (c .before .before .before .before .before .before .before .before .before .gather .last .1 .1 .1 .1 .1 .1 .1 .1 .1 .0))) (Sized (c .before .before .before .before .before .before .before .before .before .gather .last .1 .1 .1 .1 .1 .1 .1 .1 .1 .1 .0) (c .before .before .before .before .before .before .before .before .before .gather .last .1 .1 .1 .1 .1 .1 .0) (c .before .before .before .before .before .before .before .before .before .gather .last .1 .1 .1 .1 .1 .1 .1 .0) (c .before .before .before .before .before .before .before .before .before .gather .last .1 .1 .1 .1 .1 .1 .1 .1 .0) (c .before .before .before .before .before .before .before .before .before .gather .last .1 .1 .1 .1 .1 .1 .1 .1 .1 .0)) (c .before .before .before .before .before .before .before .before .before .gather .result) (c .before .before .before .before .before .before .before .before .before .gather .ensures) (c .before .before .before .before .before .before .before .before .before .before .before .before .before .before .before .before .before .args .row .now) _ _ _ _ (c .before .before .before .before .before .before .before .next .given .1) refl (c .before .before .before .before .before .if1 .left)))
 
--- src/listing.rt:100:1
 returns-2 : tie.Need-returns-2
 returns-2 c = listing-refused (c .before .before .before .before .before .before .before .before .before .before .before .args .bytes .now) (bytes-of (c .before .before .before .before .before .before .before .before .before .before .before .args .bytes .now) (λ i. omega (arith, c .before .before .before .before .before .before .before .before .before .before .shared-slice-known .given i))) (arrays (replicate 128 0) (replicate 4096 0) (rows (replicate 4096 0) (replicate 4096 0) (replicate 4096 0))) (arrays (c .before .before .before .gather .last .1 .1 .1 .1 .1 .1 .1 .1 .1 .1 .0) (c .before .before .before .gather .last .1 .1 .1 .1 .1 .1 .0) (rows (c .before .before .before .gather .last .1 .1 .1 .1 .1 .1 .1 .0) (c .before .before .before .gather .last .1 .1 .1 .1 .1 .1 .1 .1 .0) (c .before .before .before .gather .last .1 .1 .1 .1 .1 .1 .1 .1 .1 .0))) (Sized (c .before .before .before .gather .last .1 .1 .1 .1 .1 .1 .1 .1 .1 .1 .0) (c .before .before .before .gather .last .1 .1 .1 .1 .1 .1 .0) (c .before .before .before .gather .last .1 .1 .1 .1 .1 .1 .1 .0) (c .before .before .before .gather .last .1 .1 .1 .1 .1 .1 .1 .1 .0) (c .before .before .before .gather .last .1 .1 .1 .1 .1 .1 .1 .1 .1 .0)) (c .before .before .before .gather .result) (c .before .before .before .gather .ensures) (c .before .before .before .before .before .before .before .before .before .before .before .args .row .now) _ (c .before .c .given .1)
 
--- src/listing.rt:100:1
 same-length : tie.Need-same-length
 same-length c = search needs
 
--- src/listing.rt:100:1
 returns-3 : tie.Need-returns-3
 returns-3 c = listing-done (c .before .before .before .before .before .before .before .before .before .before .before .before .before .before .before .before .before .before .before .before .args .bytes .now) (bytes-of (c .before .before .before .before .before .before .before .before .before .before .before .before .before .before .before .before .before .before .before .before .args .bytes .now) (λ i. omega (arith, c .before .before .before .before .before .before .before .before .before .before .before .before .before .before .before .before .before .before .before .shared-slice-known .given i))) (arrays (replicate 128 0) (replicate 4096 0) (rows (replicate 4096 0) (replicate 4096 0) (replicate 4096 0))) (arrays (c .before .before .before .before .before .before .before .before .before .before .before .before .gather .last .1 .1 .1 .1 .1 .1 .1 .1 .1 .1 .0) (c .before .before .before .before .before .before .before .before .before .before .before .before .gather .last .1 .1 .1 .1 .1 .1 .0) (rows (c .before .before .before .before .before .before .before .before .before .before .before .before .gather .last .1 .1 .1 .1 .1 .1 .1 .0) (c .before .before .before .before .before .before .before .before .before .before .before .before .gather .last .1 .1 .1 .1 .1 .1 .1 .1 .0) (c .before .before .before .before .before .before .before .before .before .before .before .before .gather .last .1 .1 .1 .1 .1 .1 .1 .1 .1 .0))) (Sized (c .before .before .before .before .before .before .before .before .before .before .before .before .gather .last .1 .1 .1 .1 .1 .1 .1 .1 .1 .1 .0) (c .before .before .before .before .before .before .before .before .before .before .before .before .gather .last .1 .1 .1 .1 .1 .1 .0) (c .before .before .before .before .before .before .before .before .before .before .before .before .gather .last .1 .1 .1 .1 .1 .1 .1 .0) (c .before .before .before .before .before .before .before .before .before .before .before .before .gather .last .1 .1 .1 .1 .1 .1 .1 .1 .0) (c .before .before .before .before .before .before .before .before .before .before .before .before .gather .last .1 .1 .1 .1 .1 .1 .1 .1 .1 .0)) (c .before .before .before .before .before .before .before .before .before .before .before .before .gather .result) (c .before .before .before .before .before .before .before .before .before .before .before .before .gather .ensures) (c .before .before .before .before .before .before .before .before .before .before .before .before .before .before .before .before .before .before .before .before .args .row .now) _ _ _ _ (c .before .before .before .before .before .before .before .before .before .before .next .given .1) refl (c .before .before .before .before .before .before .before .before .if1 .left) _ _ _ (c .before .before .list .ensures)
 

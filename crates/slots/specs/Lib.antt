@@ -1,0 +1,2 @@
+-- Small numbers for keys.
+pub mod Slot

@@ -1,0 +1,2 @@
+-- What the steps of the verdict ask for and answer.
+pub mod Judge
