@@ -1,10 +1,10 @@
 -- Entries that are written into a column one after the other.
 use mathlib.Core.Path.{_≡_, refl, sym, ap, _∙_}
 use mathlib.Core.List.{List, [], _∷_, _++_, append-assoc, append-nil}
-use Prim.Native.Nat.{ℕ, suc, _+_, _≤_, _<_}
+use Prim.Native.Nat.{ℕ, suc, _+_, _<_}
 use native.Mathlib.Numerals.{add-one}
 use native.Mathlib.Omega.{arith}
-use lib.ListN.{length, take, set, getD, length-append}
+use lib.ListN.{length, take, set, getD}
 use lib.Seq.{take-suc, take-suc-set, take-set-lt, set-at, length-take-le}
 use Rattle.causes.specs.Entry.{Entry}
 use Rattle.lay.specs.Sheet.{column, Filled}

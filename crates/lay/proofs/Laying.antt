@@ -1,6 +1,6 @@
 -- How a term is laid out, from how its children are: a law for each way out of the pass.
 use mathlib.Core.Path.{_≡_, refl, sym, ap, subst, _∙_}
-use mathlib.Core.Logic.{_⊎_, _≢_, inl, inr}
+use mathlib.Core.Logic.{_≢_}
 use mathlib.Core.List.{List, [], _∷_, _++_}
 use Prim.Native.Nat.{ℕ, zero, suc, _+_, _≤_, _<_, _%_}
 use native.Mathlib.Numerals.{add-one}
@@ -10,14 +10,14 @@ use lib.Seq.{set-set, set-getD}
 use Rattle.ccsk.specs.Term.{Term, Key, nil, pre, cho, par, res, size}
 use Rattle.format.specs.Limits.{node-limit}
 use Rattle.format.specs.Encode.{encode, InRange}
-use Rattle.format.proofs.Flat.{headKind, headKey, bodyLength, childCount, Due, keyAt}
+use Rattle.format.proofs.Flat.{headKind, headKey, bodyLength, childCount, keyAt}
 use Rattle.causes.specs.Entry.{Entry, Scopes, under, marked, entries}
 use Rattle.lay.specs.declared.Place.{Place}
 use Rattle.lay.specs.Sheet.{Sheet, Sized, Rows}
 use Rattle.lay.specs.Lay.{Here, Ready, Tells, Laid, Lays}
 use Rattle.lay.proofs.Columns.{filled-none, filled-both, filled-first, filled-last}
 use Rattle.lay.proofs.Scopes.{told, tells-told, tells-under}
-use Rattle.lay.proofs.Places.{inside, due-past, action-after, name-after, root-kind, root-key, body-of, here-prefix, here-marked, here-restriction, here-choice, here-parallel}
+use Rattle.lay.proofs.Places.{due-past, action-after, name-after, root-kind, root-key, body-of, here-prefix, here-marked, here-restriction, here-choice, here-parallel}
 
 rows-none : (i : ℕ) (x : Sheet) → Rows i i x x []
 rows-none i x = record {

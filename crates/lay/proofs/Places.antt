@@ -1,7 +1,7 @@
 -- The term at a place of a record: what its bytes tell of its root, and where its children stand.
-use mathlib.Core.Path.{_≡_, refl, sym, ap, subst, _∙_}
+use mathlib.Core.Path.{_≡_, sym, ap, subst, _∙_}
 use mathlib.Core.Logic.{_≢_}
-use mathlib.Core.List.{List, [], _∷_, _++_}
+use mathlib.Core.List.{List, _∷_, _++_}
 use Prim.Native.Nat.{ℕ, zero, suc, _+_, _≤_, _<_}
 use native.Mathlib.Decide.{decLt}
 use native.Mathlib.Omega.{arith}
@@ -10,7 +10,7 @@ use lib.Seq.{getD-drop, drop-drop, drop-append-seam}
 use Rattle.ccsk.specs.Term.{Term, nil, pre, cho, par, res, size}
 use Rattle.format.specs.Limits.{node-limit}
 use Rattle.format.specs.Encode.{encode}
-use Rattle.format.proofs.Flat.{encodes, after, headKind, headKey, bodyLength, Due, keyAt, none-due, key-here, kind-here, key-within, kind-known, ends-within, due-after}
+use Rattle.format.proofs.Flat.{encodes, after, headKind, headKey, bodyLength, Due, keyAt, none-due, key-here, kind-here, kind-known, ends-within, due-after}
 use Rattle.causes.specs.Entry.{marked}
 use Rattle.lay.specs.Lay.{Here, Ready}
 

@@ -1,13 +1,13 @@
 -- The table of nearest restrictions tells the scopes, with no restriction open and below one more.
-use mathlib.Core.Path.{_≡_, refl, sym, ap, _∙_}
+use mathlib.Core.Path.{_≡_, refl, sym, _∙_}
 use mathlib.Core.Logic.{_⊎_, _≢_, inl, inr, ⊎-elim}
 use mathlib.Core.List.{List}
-use Prim.Native.Nat.{ℕ, suc, _+_, _-_, _≤_, _<_, _%_}
+use Prim.Native.Nat.{ℕ, suc, _+_, _≤_, _<_, _%_}
 use native.Mathlib.Decide.{decLt}
 use native.Mathlib.Omega.{arith}
-use lib.ListN.{length, getD, set, replicate, getD-replicate}
+use lib.ListN.{length, getD, set}
 use lib.Seq.{getD-set-same, getD-set-other}
-use Rattle.ccsk.specs.Term.{Name, Label, Node, Channel, On}
+use Rattle.ccsk.specs.Term.{Name, Node, Channel, On}
 use Rattle.ccsk.proofs.Decide.{on?}
 use Rattle.causes.specs.Entry.{Scopes, nearest, under, open-scopes}
 use Rattle.lay.specs.Lay.{Tells}

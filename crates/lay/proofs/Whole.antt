@@ -1,17 +1,16 @@
 -- A whole record: it stands ready at its start, and its rows are all entries of its term.
 use mathlib.Core.Path.{_≡_, refl, _∙_, ap}
-use mathlib.Core.List.{List, [], _∷_, _++_}
+use mathlib.Core.List.{List, []}
 use Prim.Native.Nat.{ℕ, zero, suc, _+_, _≤_, _<_}
 use native.Mathlib.Omega.{arith}
 use lib.ListN.{length, getD, length-append}
 use Rattle.ccsk.specs.Term.{Term, Key, Node, nil, pre, cho, par, res, size}
-use Rattle.format.specs.Limits.{node-limit}
 use Rattle.format.proofs.Flat.{all-due}
-use Rattle.causes.specs.Entry.{Entry, Scopes, under, open-scopes, marked, entries, all}
+use Rattle.causes.specs.Entry.{Scopes, under, open-scopes, marked, entries}
 use Rattle.keys.specs.Gather.{RecordOf, Readable}
 use Rattle.lay.specs.declared.Place.{Place}
 use Rattle.lay.specs.Sheet.{Sheet, sheet, Sized}
-use Rattle.lay.specs.Lay.{Here, Ready, Lays, Whole, AllLaid, LaidOut}
+use Rattle.lay.specs.Lay.{Here, Ready, Lays, Whole, LaidOut}
 use Rattle.lay.proofs.Scopes.{tells-open}
 
 marked-few : (t : Term) → marked t ≤ size t

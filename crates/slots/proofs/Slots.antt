@@ -1,19 +1,19 @@
 -- Ranks give small and faithful names to the keys of a set.
-use mathlib.Core.Path.{_≡_, refl, sym, ap, _∙_}
-use mathlib.Core.Logic.{_⊎_, inl, inr, ⊎-elim}
+use mathlib.Core.Path.{_≡_, refl}
+use mathlib.Core.Logic.{_⊎_, inl, inr}
 use mathlib.Core.List.{List, [], _∷_}
 use mathlib.Core.Bool.{true}
 use Prim.Native.Nat.{ℕ, zero, suc, _+_, _≤_, _<_}
 use native.Mathlib.Omega.{arith}
 use lib.ListN.{length, getD}
-use Rattle.ccsk.specs.Numbers.{In, distinct}
+use Rattle.ccsk.specs.Numbers.{In}
 use Rattle.causes.proofs.Renaming.{Faithful}
 use Rattle.keyset.specs.Set.{member}
 use Rattle.keys.specs.Gather.{Holds}
 use Rattle.keys.proofs.Distinct.{distinct-length}
 use Rattle.rank.specs.Rank.{rank}
 use Rattle.rank.proofs.Ranks.{rank-once, rank-less, rank-counts}
-use Rattle.slots.specs.Slot.{slot, Renamed, Positive, Below, Numberable, Numbered}
+use Rattle.slots.specs.Slot.{slot, Renamed, Positive, Numberable, Numbered}
 
 -- what is in a column stands in one of its places
 pub in-place : (k : ℕ) (l : List ℕ) → In k l → (i : ℕ) × (i < length l) × (k ≡ getD l i 0)

@@ -2,12 +2,11 @@
 use mathlib.Core.Path.{_≡_, refl, sym, ap, subst, _∙_}
 use mathlib.Core.Logic.{_⊎_}
 use mathlib.Core.List.{List, [], _∷_, _++_}
-use Prim.Native.Nat.{ℕ, zero, suc, _+_, _≤_, _<_}
+use Prim.Native.Nat.{ℕ, zero, suc, _+_, _<_}
 use native.Mathlib.Omega.{arith}
 use lib.ListN.{length, getD}
 use Rattle.ccsk.specs.Numbers.{In}
 use Rattle.ccsk.specs.Term.{Term, Key, Node, nil, pre, cho, par, res, size}
-use Rattle.format.specs.Limits.{node-limit}
 use Rattle.causes.specs.Entry.{Entry, Scopes, under, open-scopes, marked, entries, all}
 use Rattle.causes.specs.Links.{key-column, renamed}
 use Rattle.causes.proofs.Renaming.{Faithful, Known, all-known}
@@ -15,7 +14,6 @@ use Rattle.lay.specs.Sheet.{column}
 use Rattle.lay.proofs.Columns.{column-length}
 use Rattle.lay.proofs.Whole.{entries-count}
 use Rattle.pairs.specs.Rows.{table}
-use Rattle.pairs.proofs.Tables.{Square, Keys}
 use Rattle.slots.specs.Slot.{Renamed, Positive, Numberable, Numbered}
 use Rattle.slots.proofs.Slots.{place-in}
 use Rattle.verdict.specs.Laid.{Laid}

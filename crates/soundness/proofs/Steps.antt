@@ -1,20 +1,19 @@
 -- The verdict step by step: the pairs and the order, the columns, the record.
-use mathlib.Core.Path.{_≡_, refl, sym, ap, subst, _∙_}
-use mathlib.Core.Logic.{_⊎_, inl, inr, ⊎-elim}
+use mathlib.Core.Path.{_≡_, refl, sym, subst, _∙_}
+use mathlib.Core.Logic.{⊎-elim}
 use mathlib.Core.List.{List}
 use mathlib.Core.Bool.{Bool, true, false, true≢false}
-use Prim.Native.Nat.{ℕ, _+_, _≤_, _<_}
+use Prim.Native.Nat.{ℕ, _≤_, _<_}
 use native.Mathlib.Omega.{arith}
-use lib.ListN.{length, getD, take, replicate, length-replicate, getD-replicate}
+use lib.ListN.{length, take, replicate, length-replicate, getD-replicate}
 use lib.Seq.{length-take-le, getD-take}
 use Rattle.ccsk.specs.Term.{Term}
 use Rattle.format.specs.Limits.{node-limit}
-use Rattle.format.specs.Read.{Reads, Refuses}
+use Rattle.format.specs.Read.{Reads}
 use Rattle.format.specs.Encode.{Bytes}
 use Rattle.format.proofs.Unique.{encode-decode}
 use Rattle.causes.specs.Tests.{Tested, first-fails, second-fails}
 use Rattle.causes.proofs.Verdict.{tested-verdict}
-use Rattle.cycles.specs.Graph as graph
 use Rattle.pairs.specs.Rows.{Indexed}
 use Rattle.pairs.specs.Cause.{CauseBelow}
 use Rattle.pairs.specs.Answer.{Zero}
@@ -23,12 +22,11 @@ use Rattle.folds.specs.declared.Marks.{Marks}
 use Rattle.folds.specs.declared.Whole.{Whole}
 use Rattle.folds.specs.declared.Whole.the-variants as whole
 use Rattle.folds.specs.Folded.{MarksOf, Looked}
-use Rattle.verdict.specs.Laid.{Laid}
 use Rattle.verdict.specs.Sheet.{Blank, Pairing, Noted, Ordering}
 use Rattle.verdict.proofs.Verdicts.{verdict-3, verdict-4-to-6, asked, verdict-7, verdict-0}
-use Rattle.keys.specs.Gather.{RecordOf, Readable}
-use Rattle.lay.specs.Lay.{LaidOut, AllLaid}
-use Rattle.soundness.specs.Judge.{Begun, Fair, Judged, Sheet, Spread, Settled, Slotted, Decided, Room}
+use Rattle.keys.specs.Gather.{RecordOf}
+use Rattle.lay.specs.Lay.{AllLaid}
+use Rattle.soundness.specs.Judge.{Begun, Fair, Judged, Sheet, Slotted, Decided, Room}
 
 module _ (ks acs es ss us first₀ second₀ : List ℕ) (c q : ℕ) (w : Slotted (length first₀) ks acs es ss us) (R : Room first₀ second₀ c q) where
   pub blank : Blank ks acs es ss first₀ second₀

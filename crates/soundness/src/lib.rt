@@ -5,15 +5,12 @@ use keys::Number;
 use reader::NODES;
 use verdict::ordering;
 use verdict::pairing;
-ghost use mathlib.Core.Path.{_≡_};
-ghost use Prim.Native.Nat.{_≤_};
 ghost use lib.ListN.{length};
-ghost use Rattle.format.specs.Limits.{node-limit};
 ghost use Rattle.keys.specs.Number.{refusal, value};
 ghost use Rattle.operations.specs.Ask.{Soundness};
-ghost use Rattle.soundness.specs.Judge.{Begun, Fair, Judged, Spread, Settled, Slotted, Decided, Room};
+ghost use Rattle.soundness.specs.Judge.{Fair, Judged, Spread, Settled, Slotted, Decided, Room};
 
-// The first two verdicts; what the test for the others answers where none of the conditions 3 to 6 fails; and soundness.
+// Verdicts: below a prefix with key 0 stands a key; both sides of a choice hold keys; keys lead in a cycle; nothing fails.
 const NOT_WAITING: usize = 1;
 
 const NOT_CHOSEN: usize = 2;
