@@ -12,6 +12,7 @@ use Rattle.format.specs.Read.{Reading, Reading.refused, term, kindOf, node}
 use Rattle.format.specs.Encode.{high, low, encode, depth, InRange}
 use Rattle.format.specs.Preorder.{shown, preorder}
 use Rattle.reader.specs.Head.{body, childCount, NodeAt, NoNodeAt}
+use Rattle.reader.specs.Due.{push}
 use Rattle.cursor.specs.Ahead.{Due, due, count, bytesOf, nodesOf, depthsOf, Held}
 
 -- kind and body of a term's root
@@ -36,11 +37,6 @@ behind d (pre a k t) w = due (suc d) t w
 behind d (cho t u) w = due (suc d) t (due (suc d) u w)
 behind d (par t u) w = due (suc d) t (due (suc d) u w)
 behind d (res a t) w = due (suc d) t w
-
--- one number n times before a list
-unfoldable pub push : ℕ → ℕ → List ℕ → List ℕ
-push zero x l = l
-push (suc n) x l = x ∷ push n x l
 
 pub body-length : (t : Term) → length (bodyOf t) ≡ body (kindNo t)
 unfolding bodyOf kindNo

@@ -8,9 +8,10 @@ use lib.ListN.{length, take, drop, getD, set, length-set, length-append}
 use Rattle.ccsk.specs.Term.{Term, nil, pre, cho, par, res, size}
 use Rattle.format.specs.Preorder.{Shown, shown, preorder}
 use Rattle.reader.specs.Head.{childCount, NodeAt, NoNodeAt}
-use Rattle.cursor.specs.Ahead.{Due, none, due, count, nodesOf, depthsOf, stacked, Ahead}
-use Rattle.cursor.proofs.Front.{kindNo, bodyOf, behind, push, nodes-front, depths-front, children-most, depth-pos, held-front, child-deep, inside, good-node, kind-is, children-are, bytes-after, body-is}
-use Rattle.cursor.proofs.Stack.{stacked-length, top-is, popped, replaced, doubled}
+use Rattle.reader.specs.Due.{stacked, push}
+use Rattle.cursor.specs.Ahead.{Due, none, due, count, nodesOf, depthsOf, Ahead}
+use Rattle.cursor.proofs.Front.{kindNo, bodyOf, behind, nodes-front, depths-front, children-most, depth-pos, held-front, child-deep, inside, good-node, kind-is, children-are, bytes-after, body-is}
+use Rattle.reader.proofs.Stack.{stacked-length, top-is, popped, replaced, doubled}
 
 pub preorder-length : (d : ℕ) (t : Term) → length (preorder d t) ≡ size t
 unfolding preorder size

@@ -1,12 +1,13 @@
 -- What lies ahead in a walk through a record: the terms that are due, their bytes, their nodes and their depths.
 use mathlib.Core.Path.{_≡_}
 use mathlib.Core.List.{List, [], _∷_, _++_}
-use Prim.Native.Nat.{ℕ, zero, suc, _+_, _≤_, _<_}
-use lib.ListN.{length, drop, getD}
+use Prim.Native.Nat.{ℕ, suc, _+_, _≤_, _<_}
+use lib.ListN.{length, drop}
 use Rattle.ccsk.specs.Term.{Term}
 use Rattle.format.specs.Limits.{depth-limit}
 use Rattle.format.specs.Encode.{encode, depth, InRange}
 use Rattle.format.specs.Preorder.{Shown, preorder}
+use Rattle.reader.specs.Due.{stacked}
 
 -- The terms that a walk has still to show, the next one first, each with the depth of its root.
 pub data Due : Type 0 where
@@ -34,11 +35,6 @@ depthsOf (due d t w) = d ∷ depthsOf w
 abbrev pub Held : Due → Type 0
 Held none = Unit {0}
 Held (due d t w) = (count w < d) × (d + depth t ≤ suc depth-limit) × InRange t × Held w
-
--- the first n elements of a list, the last of them first: a stack that grows to the right
-abbrev pub stacked : ℕ → List ℕ → List ℕ
-stacked zero l = []
-stacked (suc n) l = getD l n 0 ∷ stacked n l
 
 -- From the place `at` of the bytes s the terms w are due: these bytes lie ahead, the nodes l are those to be shown,
 -- and the first `many` numbers of `depths` are the depths of the terms, the next one's last.

@@ -11,9 +11,7 @@ use Rattle.ccsk.specs.Term.{Term, nil, pre, cho, par, res, size}
 use Rattle.format.specs.Read.{refused, kindOf, keyOf, node, read}
 use Rattle.format.specs.Encode.{encode}
 use Rattle.reader.specs.Head.{body, childCount, under, NodeAt, NoNodeAt}
-use Rattle.reader.specs.Walk.{Stops, Walks, Walked}
-use Rattle.reader.specs.declared.Walk.{Walk}
-use Rattle.reader.specs.declared.Walk.the-variants as found
+use Rattle.reader.specs.Walk.{Stops, Walks}
 use Rattle.reader.proofs.Heads.{by-kind}
 
 read-nothing : (d k : ℕ) → read d k [] ≡ refused 1
@@ -137,20 +135,3 @@ module _ (s : List ℕ) (at d k : ℕ) (hs : at < length s) where
       two-children a b = by-kind (λ m. (childCount m ≡ 0 → ⊥) → (childCount m ≡ 1 → ⊥) → (m ≡ 2) ⊎ (m ≡ 3))
           (λ a b. absurd (a refl)) (λ a b. absurd (b refl)) (λ a b. inl refl) (λ a b. inr refl) (λ a b. absurd (b refl))
           kind (H .known) (λ q. a (H .count ∙ q)) (λ q. b (H .count ∙ q))
-
-      -- what `term_at` answers at each of its returns
-      pub walked-leaf : children ≡ 0 → Walked s at d k (found.Term next (k - 1))
-      walked-leaf q = (nil, walks-nil (no-children q))
-
-      pub walked-one : children ≡ 1 → (r : Walk) → Walked s next (d - 1) (k - 1) r → Walked s at d k r
-      walked-one q (found.Refused c) h = stops-first c (λ z. omega (arith, H .count ∙ ap childCount z)) h
-      walked-one q (found.Term n l) w = ⊎-elim (λ z. (_, walks-prefix (w .0) n l (w .1) z)) (λ z. (_, walks-restriction (w .0) n l (w .1) z)) (one-child q)
-
-      module _ (a : children ≡ 0 → ⊥) (b : children ≡ 1 → ⊥) (r : Walk) (w : Walked s next (d - 1) (k - 1) r) where
-        pub walked-first : (c : ℕ) → r ≡ found.Refused c → Stops s at d k c
-        walked-first c q = stops-first c (λ z. a (H .count ∙ ap childCount z)) (subst (Walked s next (d - 1) (k - 1)) q w)
-
-        pub walked-two : (n l : ℕ) → r ≡ found.Term n l → (r₂ : Walk) → Walked s n (d - 1) l r₂ → Walked s at d k r₂
-        walked-two n l q (found.Refused c) h = let v = subst (Walked s next (d - 1) (k - 1)) q w in stops-second (v .0) n l (v .1) c (two-children a b) h
-        walked-two n l q (found.Term n₂ l₂) x = let v = subst (Walked s next (d - 1) (k - 1)) q w in
-            ⊎-elim (λ z. (_, walks-choice (v .0) n l (v .1) (x .0) n₂ l₂ (x .1) z)) (λ z. (_, walks-parallel (v .0) n l (v .1) (x .0) n₂ l₂ (x .1) z)) (two-children a b)

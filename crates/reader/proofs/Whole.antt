@@ -12,17 +12,7 @@ use Rattle.format.specs.Read.{finish, decode, Reads, Refuses}
 use Rattle.format.specs.Encode.{Bytes}
 use Rattle.format.proofs.Refusals.{decode-refusals}
 use Rattle.operations.specs.Ask.{ReadRecord, unreadable, done}
-use Rattle.reader.specs.Walk.{Stops, Walks, Walked}
-use Rattle.reader.specs.declared.Walk.{Walk}
-use Rattle.reader.specs.declared.Walk.the-variants as found
-
--- the answer of `term_at`, once its case is known
-module _ (s : List ℕ) (at d k : ℕ) (r : Walk) (w : Walked s at d k r) where
-  pub walked-refused : (c : ℕ) → r ≡ found.Refused c → Stops s at d k c
-  walked-refused c e = subst (Walked s at d k) e w
-
-  pub walked-term : (next l : ℕ) → r ≡ found.Term next l → (t : Term) × Walks s at d k t next l
-  walked-term next l e = subst (Walked s at d k) e w
+use Rattle.reader.specs.Walk.{Stops, Walks}
 
 module _ (s : List ℕ) where
   pub refuses-stopped : (c : ℕ) → Stops s 0 depth-limit node-limit c → Refuses s c
@@ -38,9 +28,6 @@ module _ (s : List ℕ) where
     pub reads-whole : length s ≤ next → Reads s t
     unfolding decode finish
     reads-whole h = rw (W .reads, drop-of-length-le s h)
-
-    pub counts-nodes : length s ≤ next → ReadRecord s 0 (node-limit - l)
-    counts-nodes h = let e : size t ≡ node-limit - l = omega (arith, W .nodes) in subst (ReadRecord s 0) e (done (reads-whole h))
 
 -- what the answer of `read` says
 pub record-cases : (s : List ℕ) (c n : ℕ) → ReadRecord s c n → (Refuses s c × (n ≡ 0)) ⊎ ((t : Term) × Reads s t × (c ≡ 0) × (n ≡ size t))

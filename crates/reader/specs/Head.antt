@@ -8,12 +8,22 @@ use Rattle.format.specs.Read.{Reading, refused, term, Kind, nil-kind, prefix-ki
 use Rattle.reader.specs.declared.Head.{Head}
 use Rattle.reader.specs.declared.Head.the-variants.{Bad, Node}
 
--- how many bytes a body has, and how many children a node, by kind (01, The record, the table of kinds)
+-- the tables by kind: how many bytes a body has, and how many children a node (01, The record, the table of kinds)
+abbrev pub bodies : List ℕ
+bodies = 0 ∷ 3 ∷ 0 ∷ 0 ∷ 1 ∷ []
+
+abbrev pub families : List ℕ
+families = 0 ∷ 1 ∷ 2 ∷ 2 ∷ 1 ∷ []
+
 abbrev pub body : ℕ → ℕ
-body kind = getD (0 ∷ 3 ∷ 0 ∷ 0 ∷ 1 ∷ []) kind 0
+body kind = getD bodies kind 0
 
 abbrev pub childCount : ℕ → ℕ
-childCount kind = getD (0 ∷ 1 ∷ 2 ∷ 2 ∷ 1 ∷ []) kind 0
+childCount kind = getD families kind 0
+
+-- the two lists are the tables
+abbrev pub Tables : List ℕ → List ℕ → Type 0
+Tables b f = (b ≡ bodies) × (f ≡ families)
 
 -- A good node with its byte of kind at the place `at` of s: what is made of its children. r reads a child, s′ are the bytes after the body.
 unfoldable pub under : Kind → List ℕ → ℕ → (ℕ → List ℕ → Reading) → ℕ → List ℕ → Reading

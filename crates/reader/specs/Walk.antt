@@ -1,4 +1,4 @@
--- The term that starts at a place, as `term_at` finds it, against the reading of a record.
+-- The term that starts at a place, as a recursive pass finds it, against the reading of a record.
 use mathlib.Core.Path.{_≡_}
 use mathlib.Core.List.{List}
 use Prim.Native.Nat.{ℕ, _+_}
@@ -6,8 +6,6 @@ use lib.ListN.{length, drop}
 use Rattle.ccsk.specs.Term.{Term, size}
 use Rattle.format.specs.Read.{refused, term, read}
 use Rattle.format.specs.Encode.{encode}
-use Rattle.reader.specs.declared.Walk.{Walk}
-use Rattle.reader.specs.declared.Walk.the-variants as found
 
 -- With d levels and k nodes left, reading at the place `at` of s is refused with c.
 abbrev pub Stops : List ℕ → ℕ → ℕ → ℕ → ℕ → Type 0
@@ -18,8 +16,3 @@ pub record Walks (s : List ℕ) (at d k : ℕ) (t : Term) (next l : ℕ) : Type 
   pub reads : read d k (drop at s) ≡ term t (drop next s) l
   pub ends : next ≡ at + length (encode t)
   pub nodes : k ≡ size t + l
-
--- what `term_at` answers
-abbrev pub Walked : List ℕ → ℕ → ℕ → ℕ → Walk → Type 0
-Walked s at d k (found.Refused c) = Stops s at d k c
-Walked s at d k (found.Term next l) = (t : Term) × Walks s at d k t next l

@@ -3,14 +3,18 @@ ghost use Prim.Native.Nat.{_<_, _≤_};
 ghost use mathlib.Core.Path.{_≡_};
 ghost use lib.ListN.{length};
 ghost use Rattle.operations.specs.Ask.{ReadRecord};
-ghost use Rattle.reader.specs.Head.{body, childCount, Headed};
-ghost use Rattle.reader.specs.Walk.{Walked};
+ghost use Rattle.reader.specs.Head.{body, childCount, Tables, Headed};
 ghost use Rattle.reader.specs.Count.{refusal, nodes};
 
 // The limits of a record: nodes, and levels.
 pub const NODES: usize = 4096;
 
 pub const DEPTH: usize = 256;
+
+// The same number of levels as a stack of them keeps it, and the length of the reader's stack: a place for each level and one to spare.
+pub const LEVELS: u16 = DEPTH as u16;
+
+const DUE: usize = DEPTH + 1;
 
 // The kinds of a node. The tables below give for each the length of its body and the number of its children.
 pub const NIL: usize = 0;
@@ -23,9 +27,11 @@ pub const PARALLEL: usize = 3;
 
 pub const RESTRICTION: usize = 4;
 
-pub const BODY: [u8; 5] = [0, 3, 0, 0, 1];
+pub const KINDS: usize = 5;
 
-pub const CHILDREN: [u8; 5] = [0, 1, 2, 2, 1];
+pub const BODY: [u8; KINDS] = [0, 3, 0, 0, 1];
+
+pub const CHILDREN: [u8; KINDS] = [0, 1, 2, 2, 1];
 
 // The byte that is no action, and the greatest name.
 pub const NO_ACTION: u8 = 128;
@@ -52,12 +58,6 @@ pub enum Head {
         children: usize,
         next: usize,
     },
-}
-
-// What reading a term comes to: a refusal, or where the term ends and how many nodes may still come.
-pub enum Walk {
-    Refused(u8),
-    Term { next: usize, left: usize },
 }
 
 // What a whole record comes to: a refusal, or the number of its nodes.
@@ -89,16 +89,16 @@ pub fn child_count(kind: usize) -> usize
     wide(CHILDREN[kind])
 }
 
-// The node at `at`, without its children. The caller has seen that a byte stands there.
-pub fn node_at(s: &[u8], at: usize) -> Head
-    requires { ⌜ at < length (now s) ⌝ }
+// The node at `at`, without its children. The caller has seen that a byte stands there, and lends the tables, so that a walk lays them out once.
+pub fn node_by(s: &[u8], at: usize, bodies: &[u8; KINDS], families: &[u8; KINDS]) -> Head
+    requires { ⌜ (at < length (now s)) × Tables (now bodies) (now families) ⌝ }
     ensures { λ r. ⌜ Headed (now (s .entry)) at r ⌝ }
 {
     let kind = wide(s[at]);
     if RESTRICTION < kind {
         return Head::Bad;
     }
-    let body = body_length(kind);
+    let body = wide(bodies[kind]);
     let from = at + 1;
     if s.len() - from < body {
         return Head::Bad;
@@ -118,63 +118,64 @@ pub fn node_at(s: &[u8], at: usize) -> Head
     }
     Head::Node {
         kind: kind,
-        children: child_count(kind),
+        children: wide(families[kind]),
         next: from + body,
     }
 }
 
-// The term that starts at `at`: at most `deep` levels and `left` nodes may come.
-pub fn term_at(s: &[u8], at: usize, deep: usize, left: usize) -> Walk
-    ensures { λ r. ⌜ Walked (now (s .entry)) at deep left r ⌝ }
+// The node at `at`, without its children. The caller has seen that a byte stands there.
+pub fn node_at(s: &[u8], at: usize) -> Head
+    requires { ⌜ at < length (now s) ⌝ }
+    ensures { λ r. ⌜ Headed (now (s .entry)) at r ⌝ }
 {
-    if s.len() <= at {
-        return Walk::Refused(NO_RECORD);
-    }
-    if deep == 0 {
-        return Walk::Refused(OVER_LIMIT);
-    }
-    if left == 0 {
-        return Walk::Refused(OVER_LIMIT);
-    }
-    match node_at(s, at) {
-        Head::Bad => Walk::Refused(NO_RECORD),
-        Head::Node {
-            kind: _,
-            children,
-            next,
-        } => {
-            if children == 0 {
-                return Walk::Term {
-                    next: next,
-                    left: left - 1,
-                };
-            }
-            let first = term_at(s, next, deep - 1, left - 1);
-            if children == 1 {
-                return first;
-            }
-            match first {
-                Walk::Refused(c) => Walk::Refused(c),
-                Walk::Term {
-                    next: second,
-                    left: l,
-                } => term_at(s, second, deep - 1, l),
-            }
-        }
-    }
+    let bodies = BODY;
+    let families = CHILDREN;
+    node_by(s, at, &bodies, &families)
 }
 
-// The number of nodes of the record that the bytes are, or the refusal.
+// The number of nodes of the record that the bytes are, or the refusal. `due` is a stack: how many levels each of the `many` terms
+// that are due may have, the next term's last. A node's children take its place there, with a level less.
 pub fn read(bytes: &[u8]) -> Count
     ensures { λ r. ⌜ ReadRecord (now (bytes .entry)) (refusal r) (nodes r) ⌝ }
 {
-    match term_at(bytes, 0, DEPTH, NODES) {
-        Walk::Refused(c) => Count::Refused(c),
-        Walk::Term { next, left } => {
-            if next < bytes.len() {
+    let bodies = BODY;
+    let families = CHILDREN;
+    let mut due = [LEVELS; DUE];
+    let mut many: usize = 1;
+    let mut left = NODES;
+    let mut at: usize = 0;
+    while 0 < many {
+        if bytes.len() <= at {
+            return Count::Refused(NO_RECORD);
+        }
+        let top = many - 1;
+        let levels = due[top];
+        if levels == 0 {
+            return Count::Refused(OVER_LIMIT);
+        }
+        if left == 0 {
+            return Count::Refused(OVER_LIMIT);
+        }
+        match node_by(bytes, at, &bodies, &families) {
+            Head::Bad => {
                 return Count::Refused(NO_RECORD);
             }
-            Count::Nodes(NODES - left)
+            Head::Node {
+                kind: _,
+                children,
+                next,
+            } => {
+                let below = levels - 1;
+                due[top] = below;
+                due[many] = below;
+                many = top + children;
+                left -= 1;
+                at = next;
+            }
         }
     }
+    if at < bytes.len() {
+        return Count::Refused(NO_RECORD);
+    }
+    Count::Nodes(NODES - left)
 }

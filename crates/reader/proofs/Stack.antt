@@ -1,4 +1,4 @@
--- The stack of depths in an array: its top, and what is left when the top goes and children come.
+-- A stack in an array: its top, and what is left when the top goes and others come.
 use mathlib.Core.Path.{_≡_, refl, ap, sym, _∙_}
 use mathlib.Core.List.{List, _∷_}
 use Prim.Native.Nat.{ℕ, zero, suc, _+_, _-_, _<_, _≤_}
@@ -6,13 +6,13 @@ use native.Mathlib.Numerals.{add-one, sub-one}
 use native.Mathlib.Omega.{arith}
 use lib.ListN.{length, getD, set, length-set}
 use lib.Seq.{getD-set-same, getD-set-other}
-use Rattle.cursor.specs.Ahead.{stacked}
+use Rattle.reader.specs.Due.{stacked, push}
 
 pub stacked-length : (n : ℕ) (l : List ℕ) → length (stacked n l) ≡ n
 stacked-length zero l = refl
 stacked-length (suc n) l = ap suc (stacked-length n l)
 
-stacked-top : (n : ℕ) (l : List ℕ) → 0 < n → stacked n l ≡ getD l (n - 1) 0 ∷ stacked (n - 1) l
+pub stacked-top : (n : ℕ) (l : List ℕ) → 0 < n → stacked n l ≡ getD l (n - 1) 0 ∷ stacked (n - 1) l
 stacked-top zero l h = absurd (omega arith)
 stacked-top (suc n) l h = simp sub-one
 
@@ -44,3 +44,12 @@ module _ (n : ℕ) (a : List ℕ) (d : ℕ) (l : List ℕ) (e : stacked n a ≡ 
     -- the top gives way to v, and v comes once more
     pub doubled : n < length a → stacked (n + 1) (set (set a (n - 1) v) n v) ≡ v ∷ (v ∷ l)
     doubled g = rw (add-one n, getD-set-same (set a (n - 1) v) n v 0 (rw length-set g), stacked-set n (set a (n - 1) v) n v (omega arith), replaced)
+
+    -- the top gives way to v as often as there are children
+    pub pushed : n < length a → (c : ℕ) → c ≤ 2 → stacked (n - 1 + c) (set (set a (n - 1) v) n v) ≡ push c v l
+    unfolding push
+    pushed g zero u = let m : n - 1 + 0 ≡ n - 1 = omega arith in
+        rw (m, stacked-set (n - 1) (set a (n - 1) v) n v (omega arith), stacked-set (n - 1) a (n - 1) v (omega arith), popped)
+    pushed g (suc zero) u = let m : n - 1 + 1 ≡ n = omega (arith, some) in rw (m, stacked-set n (set a (n - 1) v) n v (omega arith), replaced)
+    pushed g (suc (suc zero)) u = let m : n - 1 + 2 ≡ n + 1 = omega (arith, some) in rw m (doubled g)
+    pushed g (suc (suc (suc c))) u = absurd (omega arith)
