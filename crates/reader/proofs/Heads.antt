@@ -1,5 +1,5 @@
 -- One node without its children, against the reading of a node.
-use mathlib.Core.Path.{_≡_, refl, ap, sym, subst, _∙_}
+use mathlib.Core.Path.{_≡_, refl, sym, subst, _∙_}
 use mathlib.Core.List.{List, [], _∷_}
 use Prim.Native.Nat.{ℕ, zero, suc, _+_, _-_, _<_, _≤_}
 use native.Mathlib.Nat.{add-zero}
@@ -109,10 +109,6 @@ under-at s at s′ r k = by-kind (λ b. under (kindOf b) (drop at s) 0 r k s′ 
     refl
     refl
     (rw (getD-drop at s 1 0))
-
--- what was looked up in a list that is the table was looked up in the table
-pub looked-up : (l table : List ℕ) (r k : ℕ) → l ≡ table → r ≡ getD l k 0 → r ≡ getD table k 0
-looked-up l table r k e q = q ∙ ap (λ l. getD l k 0) e
 
 -- a kind's body fits where the body of the byte that was read fits
 pub room : (b n l : ℕ) → b ≡ n → body b ≤ l → body n ≤ l

@@ -29,9 +29,9 @@ pub const RESTRICTION: usize = 4;
 
 pub const KINDS: usize = 5;
 
-pub const BODY: [u8; KINDS] = [0, 3, 0, 0, 1];
+pub const BODY: [usize; KINDS] = [0, 3, 0, 0, 1];
 
-pub const CHILDREN: [u8; KINDS] = [0, 1, 2, 2, 1];
+pub const CHILDREN: [usize; KINDS] = [0, 1, 2, 2, 1];
 
 // The byte that is no action, and the greatest name.
 pub const NO_ACTION: u8 = 128;
@@ -78,7 +78,7 @@ pub fn body_length(kind: usize) -> usize
     requires { ⌜ kind ≤ 4 ⌝ }
     ensures { λ r. ⌜ r ≡ body kind ⌝ }
 {
-    wide(BODY[kind])
+    BODY[kind]
 }
 
 // How many children a node of a known kind has.
@@ -86,11 +86,11 @@ pub fn child_count(kind: usize) -> usize
     requires { ⌜ kind ≤ 4 ⌝ }
     ensures { λ r. ⌜ r ≡ childCount kind ⌝ }
 {
-    wide(CHILDREN[kind])
+    CHILDREN[kind]
 }
 
 // The node at `at`, without its children. The caller has seen that a byte stands there, and lends the tables, so that a walk lays them out once.
-pub fn node_by(s: &[u8], at: usize, bodies: &[u8; KINDS], families: &[u8; KINDS]) -> Head
+pub fn node_by(s: &[u8], at: usize, bodies: &[usize; KINDS], families: &[usize; KINDS]) -> Head
     requires { ⌜ (at < length (now s)) × Tables (now bodies) (now families) ⌝ }
     ensures { λ r. ⌜ Headed (now (s .entry)) at r ⌝ }
 {
@@ -98,7 +98,7 @@ pub fn node_by(s: &[u8], at: usize, bodies: &[u8; KINDS], families: &[u8; KINDS]
     if RESTRICTION < kind {
         return Head::Bad;
     }
-    let body = wide(bodies[kind]);
+    let body = bodies[kind];
     let from = at + 1;
     if s.len() - from < body {
         return Head::Bad;
@@ -118,7 +118,7 @@ pub fn node_by(s: &[u8], at: usize, bodies: &[u8; KINDS], families: &[u8; KINDS]
     }
     Head::Node {
         kind: kind,
-        children: wide(families[kind]),
+        children: families[kind],
         next: from + body,
     }
 }
