@@ -47,11 +47,7 @@ pub fn mark(marks: &mut [u8; BYTES], key: u16) -> usize
     if key == 0 {
         return 0;
     }
-    if keyset::has(marks, key) {
-        return 0;
-    }
-    keyset::add(marks, key);
-    1
+    keyset::add(marks, key)
 }
 
 // Marks the keys of a readable record in an empty set: how many different ones there are.
@@ -97,8 +93,8 @@ pub fn least_free(bytes: &[u8]) -> Number
         Number::Refused(c) => Number::Refused(c),
         Number::Is(_) => {
             keyset::add(&mut marks, 0);
-            let key = keyset::least_missing(&marks);
-            Number::Is(key as usize)
+            let free = keyset::least_missing(&marks) as usize;
+            Number::Is(free)
         }
     }
 }

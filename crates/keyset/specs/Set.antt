@@ -24,6 +24,11 @@ member s k = eqb (bit (getD s (k / 8) 0) (k % 8)) 1
 unfoldable pub added : List ℕ → ℕ → List ℕ
 added s k = cond (member s k) s (set s (k / 8) (getD s (k / 8) 0 + power (k % 8)))
 
+-- The number k was put into the set s, which is then s′ and has r numbers more.
+pub record Added (s : List ℕ) (k : ℕ) (s′ : List ℕ) (r : ℕ) : Type 0 where
+  pub result : s′ ≡ added s k
+  pub gain : r ≡ cond (member s k) 0 1
+
 -- some 16-bit number is not in the set
 abbrev pub Missing : List ℕ → Type 0
 Missing s = (k : ℕ) × (k < 65536) × (member s k ≡ false)

@@ -3,15 +3,12 @@ ghost use mathlib.Core.Path.{_≡_};
 ghost use Prim.Native.Nat.{_+_, _<_, _≤_};
 ghost use lib.Dec.{eqb};
 ghost use lib.ListN.{length};
-ghost use Rattle.keyset.specs.Set.{bit, power, member, added, Missing, LeastMissing, membersBelow, Fronted};
+ghost use Rattle.keyset.specs.Set.{bit, power, member, Added, Missing, LeastMissing, membersBelow, Fronted};
 
 // Every 16-bit key has a bit.
 pub const BYTES: usize = 8192;
 
 const KEYS: usize = 65536;
-
-// The value of each bit of a byte.
-const POWERS: [u8; 8] = [1, 2, 4, 8, 16, 32, 64, 128];
 
 // A byte of the set that holds all its eight keys.
 const FULL: u8 = 255;
@@ -28,7 +25,7 @@ fn has_bit(byte: u8, i: usize) -> bool
     requires { ⌜ i < 8 ⌝ }
     ensures { λ r. ⌜ r ≡ eqb (bit byte i) 1 ⌝ }
 {
-    byte / POWERS[i] % 2 == 1
+    (byte >> i) % 2 == 1
 }
 
 // The byte with bit i, which it has not yet.
@@ -36,7 +33,7 @@ fn with_bit(byte: u8, i: usize) -> u8
     requires { ⌜ (i < 8) × (bit byte i ≡ 0) ⌝ }
     ensures { λ r. ⌜ r ≡ byte + power i ⌝ }
 {
-    byte + POWERS[i]
+    byte + (1u8 << i)
 }
 
 // Whether the key is in the set.
@@ -48,18 +45,19 @@ pub fn has(marks: &[u8; BYTES], key: u16) -> bool
     has_bit(marks[k / 8], k % 8)
 }
 
-// Puts the key into the set.
-pub fn add(marks: &mut [u8; BYTES], key: u16)
+// Puts the key into the set: how many more keys the set has then, 0 or 1.
+pub fn add(marks: &mut [u8; BYTES], key: u16) -> usize
     requires { ⌜ length (now marks) ≡ 8192 ⌝ }
-    ensures { λ _. ⌜ now (marks .exit) ≡ added (now (marks .entry)) key ⌝ }
+    ensures { λ r. ⌜ Added (now (marks .entry)) key (now (marks .exit)) r ⌝ }
 {
     let k = wide(key);
     let at = k / 8;
     let byte = marks[at];
     if has_bit(byte, k % 8) {
-        return;
+        return 0;
     }
     marks[at] = with_bit(byte, k % 8);
+    1
 }
 
 // The least number that is not in the set; the caller knows that one is missing.
