@@ -48,6 +48,12 @@ unfoldable pub membersBelow : List ℕ → ℕ → List ℕ
 membersBelow s zero = []
 membersBelow s (suc k) = tick (member s k) k (membersBelow s k)
 
+-- The n numbers below k that are in the set stand at the front of the row, which was `old` before.
+pub record Listed (s old : List ℕ) (k n : ℕ) (row : List ℕ) : Type 0 where
+  pub count : n ≡ length (membersBelow s k)
+  pub front : row ≡ membersBelow s k ++ drop n old
+  pub whole : length row ≡ length old
+
 -- The list stands at the front of the row, and what lies past it stayed as it was.
 abbrev pub Fronted : List ℕ → List ℕ → List ℕ → Type 0
 Fronted l row row′ = row′ ≡ l ++ drop (length l) row
