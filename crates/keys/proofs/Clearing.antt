@@ -1,15 +1,16 @@
--- Going through a record from node to node and clearing its keys.
+-- Going through a record from node to node and clearing its keys. From the present node on, the bytes are still those of the record.
 use mathlib.Core.Path.{_≡_, refl, sym, ap, _∙_}
 use mathlib.Core.List.{List, [], _∷_, _++_, append-assoc, append-nil}
 use mathlib.Core.Bool.{Bool, true, false, cond}
 use Prim.Native.Nat.{ℕ, _+_, _≤_, _<_}
 use native.Mathlib.Omega.{arith}
+use borrow.Author.Tests.{eqb-true}
 use lib.Dec.{eqb}
 use lib.ListN.{length, getD, set, take, drop, length-set, length-drop}
-use lib.Seq.{take-add, drop-drop, getD-drop, drop-set-add, take-set-le, take-all}
+use lib.Seq.{take-add, drop-drop, getD-drop, drop-set-add, drop-set-lt, take-set-le, take-all}
 use Rattle.ccsk.specs.Term.{Term, nil, pre, cho, par, res, blank}
 use Rattle.format.specs.Encode.{encode}
-use Rattle.format.proofs.Flat.{Due, encodes, after, bodyLength, ends-within, none-due, all-due}
+use Rattle.format.proofs.Flat.{Due, encodes, after, bodyLength, keyAt, ends-within, none-due, all-due}
 use Rattle.keys.specs.Gather.{RecordOf, Readable, clearedAt, Cleared}
 
 -- the blank forms of several terms
@@ -50,6 +51,16 @@ module _ (s : List ℕ) (at : ℕ) where
       pick true = rw (take-set-le at (set s (at + 2) 0) (at + 3) 0 (omega arith), take-set-le at s (at + 2) 0 (omega arith))
       pick false = refl
 
+  -- nor anything after the node
+  clear-past : (b : ℕ) → b ≡ getD s at 0 → drop (at + (1 + bodyLength b)) (clearedAt s at) ≡ drop (at + (1 + bodyLength b)) s
+  clear-past b e = pick (eqb (getD s at 0) 1) refl
+    where
+      pick : (t : Bool) → eqb (getD s at 0) 1 ≡ t → drop (at + (1 + bodyLength b)) (cond t (set (set s (at + 2) 0) (at + 3) 0) s) ≡ drop (at + (1 + bodyLength b)) s
+      pick true q =
+          let z : b ≡ 1 = e ∙ eqb-true (getD s at 0) 1 q in
+          rw (z, drop-set-lt (at + 4) (set s (at + 2) 0) (at + 3) 0 (omega arith), drop-set-lt (at + 4) s (at + 2) 0 (omega arith))
+      pick false q = refl
+
   pub clear-length : length (clearedAt s at) ≡ length s
   clear-length = pick (eqb (getD s at 0) 1)
     where
@@ -63,6 +74,7 @@ pub record Clearing (s₀ s : List ℕ) (at : ℕ) : Type 0 where
   pub whole : RecordOf s₀ of
   pub terms : List Term
   pub due : Due s at terms
+  pub rest : drop at s ≡ drop at s₀
   pub front : take at s ++ encodes (blanks terms) ≡ encode (blank of)
   pub reach : at ≤ length s
   pub same : length s ≡ length s₀
@@ -74,17 +86,29 @@ start s R = record {
   whole = R .1;
   terms = R .0 ∷ [];
   due = all-due s (R .0) (R .1 .bytes);
+  rest = refl;
   front = append-nil (encode (blank (R .0)));
   reach = omega arith;
   same = refl;
 }
 
 module _ (s₀ s : List ℕ) (at : ℕ) (P : Clearing s₀ s at) where
+  -- the bytes of the present node are still the record's
+  same-byte : (i : ℕ) → getD s (at + i) 0 ≡ getD s₀ (at + i) 0
+  same-byte i = sym (getD-drop at s i 0) ∙ ap (λ (l : List ℕ). getD l i 0) (P .rest) ∙ getD-drop at s₀ i 0
+
+  pub same-kind : getD s at 0 ≡ getD s₀ at 0
+  same-kind = let z : at + 0 ≡ at = omega arith in rw z at (same-byte 0)
+
+  pub same-key : keyAt s at ≡ keyAt s₀ at
+  same-key = rw (same-kind, same-byte 2, same-byte 3)
+
   pub onward : (h : at < length s) (b : ℕ) → b ≡ getD s at 0 → (s′ : List ℕ) → s′ ≡ clearedAt s at → Clearing s₀ s′ (at + (1 + bodyLength b))
   onward h b e s′ q = rw q (record {
     of = P .of;
     whole = P .whole;
     terms = after (P .terms);
+    rest = clear-past s at b e ∙ sym (drop-drop n at s) ∙ ap (drop n) (P .rest) ∙ drop-drop n at s₀;
     due = sym (drop-drop n at (clearedAt s at)) ∙ rw (clear-drop s at) (parts .rest);
     front = rw (take-add at n (clearedAt s at), clear-take s at, clear-drop s at, append-assoc, parts .front) (P .front);
     reach = rw (clear-length s at) (ends-within s at (P .terms) (P .due) h b e);

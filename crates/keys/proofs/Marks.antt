@@ -2,7 +2,7 @@
 use mathlib.Core.Path.{_≡_, refl, sym, _∙_}
 use mathlib.Core.Logic.{_↔_}
 use mathlib.Core.List.{List, [], _∷_, append-nil}
-use mathlib.Core.Bool.{Bool, true, false}
+use mathlib.Core.Bool.{Bool, true, false, cond}
 use Prim.Native.Nat.{ℕ, zero, suc, _<_}
 use native.Mathlib.Decide.{ℕ-discrete}
 use native.Mathlib.Omega.{arith}
@@ -10,8 +10,8 @@ use lib.ListN.{replicate, length-replicate}
 use Rattle.ccsk.specs.Numbers.{In}
 use Rattle.ccsk.specs.Term.{Key, done}
 use Rattle.ccsk.proofs.Lists.{in-left}
-use Rattle.keyset.specs.Set.{member, added}
-use Rattle.keyset.proofs.Sets.{empty-member, length-added, added-same, added-other}
+use Rattle.keyset.specs.Set.{member, added, Added}
+use Rattle.keyset.proofs.Sets.{empty-member, length-added, added-old, added-same, added-other}
 use Rattle.keys.specs.Gather.{Holds, Marked}
 use Rattle.keys.proofs.Distinct.{snoc, in-snoc, snoc-last, distinct-snoc-new, distinct-snoc-old}
 
@@ -62,14 +62,21 @@ pub mark-zero : (m : List ℕ) (k : Key) → k ≡ 0 → Marked m k m 0
 mark-zero m k e = rw e (record { one = omega arith; more = λ l H. rw append-nil (H, omega arith) })
 
 module _ (m : List ℕ) (k : Key) (h : k < 65536) (p : k ≡ 0 → ⊥) where
-  pub mark-old : member m k ≡ true → Marked m k m 0
+  mark-old : member m k ≡ true → Marked m k m 0
   mark-old e = record {
     one = omega arith;
     more = λ l H. let i = H .exact k h .0 e in rw (done-one k p) (holds-old m l H k h i, omega (arith, distinct-snoc-old k l i));
   }
 
-  pub mark-new : member m k ≡ false → (m′ : List ℕ) → m′ ≡ added m k → Marked m k m′ 1
-  mark-new e m′ q = rw q (record {
+  mark-new : member m k ≡ false → Marked m k (added m k) 1
+  mark-new e = record {
     one = omega arith;
     more = λ l H. rw (done-one k p) (holds-new m l H k h, omega (arith, distinct-snoc-new k l (λ i. not-both (H .exact k h .1 i) e)));
-  })
+  }
+
+  pub mark-added : (m′ : List ℕ) (r : ℕ) → Added m k m′ r → Marked m k m′ r
+  mark-added m′ r A = rw (A .result, A .gain) (pick (member m k) refl)
+    where
+      pick : (b : Bool) → member m k ≡ b → Marked m k (added m k) (cond b 0 1)
+      pick true e = rw (added-old m k e) (mark-old e)
+      pick false e = mark-new e

@@ -47,24 +47,23 @@ pub fn mark(marks: &mut [u8; BYTES], key: u16) -> usize
     if key == 0 {
         return 0;
     }
-    if keyset::has(marks, key) {
-        return 0;
-    }
-    keyset::add(marks, key);
-    1
+    keyset::add(marks, key)
 }
 
-// Marks the keys of a readable record in an empty set: how many different ones there are.
+// Marks the keys of a readable record in an empty set: how many different ones there are. The table of the kinds is laid out once, before
+// the walk.
 fn scan(bytes: &[u8], marks: &mut [u8; BYTES]) -> usize
     requires { ⌜ Readable (now bytes) ⌝ }
     requires { ⌜ Holds (now marks) [] ⌝ }
     ensures { λ r. ⌜ Scanned (now (bytes .entry)) (now (marks .exit)) r ⌝ }
 {
+    let body = reader::BODY;
     let mut at: usize = 0;
     let mut n: usize = 0;
     while at < bytes.len() {
+        let kind = reader::wide(bytes[at]);
         n += mark(marks, key_at(bytes, at));
-        at += 1 + reader::body_length(reader::wide(bytes[at]));
+        at += 1 + reader::wide(body[kind]);
     }
     n
 }
@@ -97,8 +96,8 @@ pub fn least_free(bytes: &[u8]) -> Number
         Number::Refused(c) => Number::Refused(c),
         Number::Is(_) => {
             keyset::add(&mut marks, 0);
-            let key = keyset::least_missing(&marks);
-            Number::Is(key as usize)
+            let free = keyset::least_missing(&marks) as usize;
+            Number::Is(free)
         }
     }
 }
@@ -114,29 +113,33 @@ fn clear_at(bytes: &mut [u8], at: usize)
     }
 }
 
-// Key 0 at every prefix of a readable record.
-fn clear(bytes: &mut [u8])
+// Marks the keys of a readable record in an empty set and makes each 0, in one pass: how many different ones there were.
+fn wipe(bytes: &mut [u8], marks: &mut [u8; BYTES]) -> usize
     requires { ⌜ Readable (now bytes) ⌝ }
-    ensures { λ _. ⌜ Cleared (now (bytes .entry)) (now (bytes .exit)) ⌝ }
+    requires { ⌜ Holds (now marks) [] ⌝ }
+    ensures { λ r. ⌜ Scanned (now (bytes .entry)) (now (marks .exit)) r × Cleared (now (bytes .entry)) (now (bytes .exit)) ⌝ }
 {
+    let body = reader::BODY;
     let mut at: usize = 0;
+    let mut n: usize = 0;
     while at < bytes.len() {
         let kind = reader::wide(bytes[at]);
+        n += mark(marks, key_at(bytes, at));
         clear_at(bytes, at);
-        at += 1 + reader::body_length(kind);
+        at += 1 + reader::wide(body[kind]);
     }
+    n
 }
 
 // The blank form: every key becomes 0. Answers how many distinct keys that removed.
 pub fn blank(bytes: &mut [u8]) -> Number
     ensures { λ r. ⌜ BlankForm (now (bytes .entry)) (refusal r) (value r) (now (bytes .exit)) ⌝ }
 {
-    let mut marks = [0u8; BYTES];
-    match gather(bytes, &mut marks) {
-        Number::Refused(r) => Number::Refused(r),
-        Number::Is(n) => {
-            clear(bytes);
-            Number::Is(n)
+    match reader::read(bytes) {
+        Count::Refused(r) => Number::Refused(r),
+        Count::Nodes(_) => {
+            let mut marks = [0u8; BYTES];
+            Number::Is(wipe(bytes, &mut marks))
         }
     }
 }

@@ -1,45 +1,30 @@
--- Bits of a byte: setting one by a sum, and the table of the bits' values.
-use mathlib.Core.Path.{_≡_, refl, ap}
+-- Bits of a byte: read by a shift, and set by a sum.
+use mathlib.Core.Path.{_≡_, refl, sym, ap, _∙_}
 use mathlib.Core.Logic.{_≢_}
-use mathlib.Core.List.{List, [], _∷_}
-use Prim.Native.Nat.{ℕ, zero, suc, _+_, _*_, _<_, _/_, _%_}
+use Prim.Native.Nat.{ℕ, zero, suc, _+_, _*_, _<_, _/_, _%_, _^_}
+use native.Mathlib.Nat.{mul-comm, one-mul, pow-suc}
 use native.Mathlib.Omega.{arith}
-use lib.ListN.{getD}
+use lib.Dec.{lit<}
+use lib.Pow.{shl-exact, shr-shr}
 use Rattle.keyset.specs.Set.{bit, power}
 
--- the value of each bit of a byte
-abbrev pub powers : List ℕ
-powers = 1 ∷ 2 ∷ 4 ∷ 8 ∷ 16 ∷ 32 ∷ 64 ∷ 128 ∷ []
-
-pub power-table : (i : ℕ) → i < 8 → getD powers i 0 ≡ power i
+-- a bit's value is a power of two
+pub power-pow : (i : ℕ) → power i ≡ 2 ^ i
 unfolding power
-power-table zero h = refl
-power-table (suc zero) h = refl
-power-table (suc (suc zero)) h = refl
-power-table (suc (suc (suc zero))) h = refl
-power-table (suc (suc (suc (suc zero)))) h = refl
-power-table (suc (suc (suc (suc (suc zero))))) h = refl
-power-table (suc (suc (suc (suc (suc (suc zero)))))) h = refl
-power-table (suc (suc (suc (suc (suc (suc (suc zero))))))) h = refl
-power-table (suc (suc (suc (suc (suc (suc (suc (suc i)))))))) h = absurd (omega arith)
+power-pow zero = refl
+power-pow (suc i) = ap (λ (p : ℕ). 2 * p) (power-pow i) ∙ mul-comm 2 (2 ^ i) ∙ sym (pow-suc 2 i)
 
-pub power-pos : (i : ℕ) → 0 < power i
-unfolding power
-power-pos zero = omega arith
-power-pos (suc i) = omega (arith, power-pos i)
+-- 1 shifted by i within a byte is the value of bit i
+pub one-shifted : (i : ℕ) → i < 8 → (1 * 2 ^ i) % 2 ^ 8 ≡ power i
+one-shifted i h = shl-exact {a = 1} 1 i 8 (lit< tt) (omega arith) ∙ one-mul (2 ^ i) ∙ sym (power-pow i)
 
--- a bit is what dividing by its value leaves, modulo 2
-pub bit-div : (i b : ℕ) → i < 8 → b / getD powers i 0 % 2 ≡ bit b i
+-- bit i is what a shift by i leaves, modulo 2
+pub bit-shifted : (i b : ℕ) → b / 2 ^ i % 2 ≡ bit b i
 unfolding bit
-bit-div zero b h = omega arith
-bit-div (suc zero) b h = omega arith
-bit-div (suc (suc zero)) b h = omega arith
-bit-div (suc (suc (suc zero))) b h = omega arith
-bit-div (suc (suc (suc (suc zero)))) b h = omega arith
-bit-div (suc (suc (suc (suc (suc zero))))) b h = omega arith
-bit-div (suc (suc (suc (suc (suc (suc zero)))))) b h = omega arith
-bit-div (suc (suc (suc (suc (suc (suc (suc zero))))))) b h = omega arith
-bit-div (suc (suc (suc (suc (suc (suc (suc (suc i)))))))) b h = absurd (omega arith)
+bit-shifted zero b = omega arith
+bit-shifted (suc i) b =
+    let z : suc i ≡ 1 + i = omega arith in
+    ap (λ (n : ℕ). b / 2 ^ n % 2) z ∙ ap (λ (n : ℕ). n % 2) (sym (shr-shr b 1 i)) ∙ bit-shifted i (b / 2)
 
 pub bit-two : (i b : ℕ) → bit b i < 2
 unfolding bit

@@ -1,17 +1,17 @@
 -- The numbers of a set in ascending order: one step of going up, and what the whole list is.
-use mathlib.Core.Path.{_≡_, refl, sym, ap, subst, _∙_}
+use mathlib.Core.Path.{_≡_, refl, sym, ap, _∙_}
 use mathlib.Core.Logic.{_↔_, inl, inr, ⊎-elim}
-use mathlib.Core.List.{List, [], _∷_, _++_, append-assoc}
+use mathlib.Core.List.{List, [], _∷_, _++_}
 use mathlib.Core.Bool.{Bool, true, false}
 use Prim.Native.Nat.{ℕ, zero, suc, _+_, _-_, _*_, _≤_, _<_, _/_, _%_}
 use native.Mathlib.Numerals.{add-one}
-use native.Mathlib.Decide.{ℕ-discrete}
+use native.Mathlib.Decide.{ℕ-discrete, decLt}
 use native.Mathlib.Omega.{arith}
-use lib.ListN.{length, getD, set, drop, length-append, length-set}
-use lib.Seq.{set-at, drop-cons}
+use lib.Dec.{eqb}
+use lib.ListN.{length, getD, length-append}
 use Rattle.ccsk.specs.Numbers.{In, AscendingFrom, Lists}
 use Rattle.ccsk.proofs.Lists.{in-left, in-right, in-either}
-use Rattle.keyset.specs.Set.{bit, member, tick, membersBelow, Fronted}
+use Rattle.keyset.specs.Set.{bit, member, tick, membersBelow}
 use Rattle.keyset.proofs.Bits.{empty-bit}
 use Rattle.keyset.proofs.Steps.{true-false}
 
@@ -39,10 +39,19 @@ module _ (s : List ℕ) where
   unfolding member
   absent-byte j e = rw (e, empty-bit (j % 8))
 
-  pub members-skip : (k : ℕ) → getD s (k / 8) 0 ≡ 0 → membersBelow s ((k / 8 + 1) * 8) ≡ membersBelow s k
-  members-skip k e =
-      let z : (k / 8 + 1) * 8 ≡ k + (8 - k % 8) = omega arith in
-      rw z (over k (8 - k % 8) (λ j a b. absent-byte j (let q : j / 8 ≡ k / 8 = omega arith in rw q e)))
+  -- over a byte with none
+  pub members-skip : (i : ℕ) → getD s i 0 ≡ 0 → membersBelow s ((i + 1) * 8) ≡ membersBelow s (i * 8)
+  members-skip i e =
+      let z : (i + 1) * 8 ≡ i * 8 + 8 = omega arith in
+      rw z (over (i * 8) 8 (λ j a b. absent-byte j (let q : j / 8 ≡ i = omega arith in rw q e)))
+
+  -- the numbers of a byte are its bits
+  pub member-at : (i j : ℕ) → j < 8 → member s (i * 8 + j) ≡ eqb (bit (getD s i 0) j) 1
+  unfolding member
+  member-at i j h =
+      let a : (i * 8 + j) / 8 ≡ i = omega arith in
+      let b : (i * 8 + j) % 8 ≡ j = omega arith in
+      rw (a, b)
 
   grows : (k : ℕ) → length (membersBelow s k) ≤ length (membersBelow s (suc k))
   unfolding membersBelow
@@ -56,18 +65,41 @@ module _ (s : List ℕ) where
   grow k zero = let z : k + 0 ≡ k = omega arith in rw z (omega arith)
   grow k (suc d) = let z : k + suc d ≡ suc (k + d) = omega arith in rw z (omega (arith, grow k d, grows (k + d)))
 
+  -- no more numbers than there are below k
+  pub members-few : (k : ℕ) → length (membersBelow s k) ≤ k
+  unfolding membersBelow
+  members-few zero = omega arith
+  members-few (suc k) = pick (member s k) (members-few k)
+    where
+      pick : (b : Bool) → length (membersBelow s k) ≤ k → length (tick b k (membersBelow s k)) ≤ suc k
+      pick true h = omega (arith, length-append (membersBelow s k) (k ∷ []))
+      pick false h = omega arith
+
   -- there is room for one number more
   pub room-for : (k n top : ℕ) → k < top → n ≡ length (membersBelow s k) → member s k ≡ true → n < length (membersBelow s top)
   room-for k n top h e m =
       let z : top ≡ k + 1 + (top - (k + 1)) = omega arith in
       rw z (omega (arith, grow (k + 1) (top - (k + 1)), ap length (members-there k m), length-append (membersBelow s k) (k ∷ []), e))
 
-  pub counted-more : (k n : ℕ) → n ≡ length (membersBelow s k) → member s k ≡ true → n + 1 ≡ length (membersBelow s (k + 1))
-  counted-more k n e m = omega (arith, ap length (members-there k m), length-append (membersBelow s k) (k ∷ []), e)
+  -- a number is ahead, so the end is not reached
+  pub not-the-end : (i n m : ℕ) → i ≤ 8192 → m ≡ length (membersBelow s (i * 8)) → n ≡ length (membersBelow s 65536) → m < n → i < 8192
+  not-the-end i n m h c e l = pick (decLt i 8192)
+    where
+      pick : Dec (i < 8192) → i < 8192
+      pick (yes g) = g
+      pick (no g) = let z : i ≡ 8192 = omega arith in absurd (omega (arith, ap (λ (x : ℕ). length (membersBelow s (x * 8))) z))
 
--- one number more at the front of the row
-pub row-more : (l row₀ row : List ℕ) (n v : ℕ) → n ≡ length l → n < length row₀ → row ≡ l ++ drop n row₀ → set row n v ≡ (l ++ (v ∷ [])) ++ drop (n + 1) row₀
-row-more l row₀ row n v e h q = rw (q, drop-cons row₀ n 0 h, set-at l (getD row₀ n 0) (drop (suc n) row₀) v n (sym e), append-assoc, add-one n)
+  -- no number is ahead, so the list is whole
+  pub none-ahead : (k d : ℕ) → length (membersBelow s (k + d)) ≤ length (membersBelow s k) → membersBelow s (k + d) ≡ membersBelow s k
+  none-ahead k zero h = let z : k + 0 ≡ k = omega arith in rw z
+  none-ahead k (suc d) h = pick (member s (k + d)) refl (none-ahead k d)
+    where
+      z : k + suc d ≡ k + d + 1
+      z = omega arith
+
+      pick : (b : Bool) → member s (k + d) ≡ b → (length (membersBelow s (k + d)) ≤ length (membersBelow s k) → membersBelow s (k + d) ≡ membersBelow s k) → membersBelow s (k + suc d) ≡ membersBelow s k
+      pick true e f = absurd (omega (arith, h, grow k d, ap length (ap (membersBelow s) z), ap length (members-there (k + d) e), length-append (membersBelow s (k + d)) ((k + d) ∷ [])))
+      pick false e f = let q = ap (membersBelow s) z ∙ members-absent (k + d) e in q ∙ f (omega (arith, h, ap length q))
 
 -- a list that ascends from n goes on with a greater number
 ascends-on : (n k : ℕ) (l : List ℕ) → n < k → ((j : ℕ) → In j l → j < k) → AscendingFrom n l → AscendingFrom n (l ++ (k ∷ []))
@@ -112,6 +144,3 @@ module _ (s : List ℕ) where
   -- A set without 0 lists the numbers that are in it.
   pub members-list : member s 0 ≡ false → (top : ℕ) (P : ℕ → Type 0) → ((k : ℕ) → (k < top) × (member s k ≡ true) ↔ (0 < k) × P k) → Lists P (membersBelow s top)
   members-list o top P f = (members-ascend o top, λ k. (λ i. f k .0 (in-members top k i), λ w. let v = f k .1 w in members-in top k (v .0) (v .1)))
-
-  pub fronted : (row₀ row : List ℕ) (k n top : ℕ) → k ≡ top → n ≡ length (membersBelow s k) → row ≡ membersBelow s k ++ drop n row₀ → Fronted (membersBelow s top) row₀ row
-  fronted row₀ row k n top e c q = q ∙ rw (c, e)

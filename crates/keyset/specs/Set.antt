@@ -24,6 +24,11 @@ member s k = eqb (bit (getD s (k / 8) 0) (k % 8)) 1
 unfoldable pub added : List ℕ → ℕ → List ℕ
 added s k = cond (member s k) s (set s (k / 8) (getD s (k / 8) 0 + power (k % 8)))
 
+-- The number k was put into the set s, which is then s′ and has r numbers more.
+pub record Added (s : List ℕ) (k : ℕ) (s′ : List ℕ) (r : ℕ) : Type 0 where
+  pub result : s′ ≡ added s k
+  pub gain : r ≡ cond (member s k) 0 1
+
 -- some 16-bit number is not in the set
 abbrev pub Missing : List ℕ → Type 0
 Missing s = (k : ℕ) × (k < 65536) × (member s k ≡ false)
@@ -42,6 +47,12 @@ tick false k l = l
 unfoldable pub membersBelow : List ℕ → ℕ → List ℕ
 membersBelow s zero = []
 membersBelow s (suc k) = tick (member s k) k (membersBelow s k)
+
+-- The n numbers below k that are in the set stand at the front of the row, which was `old` before.
+pub record Listed (s old : List ℕ) (k n : ℕ) (row : List ℕ) : Type 0 where
+  pub count : n ≡ length (membersBelow s k)
+  pub front : row ≡ membersBelow s k ++ drop n old
+  pub whole : length row ≡ length old
 
 -- The list stands at the front of the row, and what lies past it stayed as it was.
 abbrev pub Fronted : List ℕ → List ℕ → List ℕ → Type 0

@@ -1,17 +1,13 @@
 // A set of keys in a lent array: one bit a key. Helpers between crates; each asks that the array is whole.
 ghost use mathlib.Core.Path.{_≡_};
-ghost use Prim.Native.Nat.{_+_, _<_, _≤_};
+ghost use mathlib.Core.List.{List};
+ghost use Prim.Native.Nat.{ℕ, _+_, _*_, _<_, _≤_};
 ghost use lib.Dec.{eqb};
 ghost use lib.ListN.{length};
-ghost use Rattle.keyset.specs.Set.{bit, power, member, added, Missing, LeastMissing, membersBelow, Fronted};
+ghost use Rattle.keyset.specs.Set.{bit, power, member, Added, Missing, LeastMissing, membersBelow, Listed, Fronted};
 
 // Every 16-bit key has a bit.
 pub const BYTES: usize = 8192;
-
-const KEYS: usize = 65536;
-
-// The value of each bit of a byte.
-const POWERS: [u8; 8] = [1, 2, 4, 8, 16, 32, 64, 128];
 
 // A byte of the set that holds all its eight keys.
 const FULL: u8 = 255;
@@ -28,7 +24,7 @@ fn has_bit(byte: u8, i: usize) -> bool
     requires { ⌜ i < 8 ⌝ }
     ensures { λ r. ⌜ r ≡ eqb (bit byte i) 1 ⌝ }
 {
-    byte / POWERS[i] % 2 == 1
+    (byte >> i) % 2 == 1
 }
 
 // The byte with bit i, which it has not yet.
@@ -36,7 +32,7 @@ fn with_bit(byte: u8, i: usize) -> u8
     requires { ⌜ (i < 8) × (bit byte i ≡ 0) ⌝ }
     ensures { λ r. ⌜ r ≡ byte + power i ⌝ }
 {
-    byte + POWERS[i]
+    byte + (1u8 << i)
 }
 
 // Whether the key is in the set.
@@ -48,18 +44,19 @@ pub fn has(marks: &[u8; BYTES], key: u16) -> bool
     has_bit(marks[k / 8], k % 8)
 }
 
-// Puts the key into the set.
-pub fn add(marks: &mut [u8; BYTES], key: u16)
+// Puts the key into the set: how many more keys the set has then, 0 or 1.
+pub fn add(marks: &mut [u8; BYTES], key: u16) -> usize
     requires { ⌜ length (now marks) ≡ 8192 ⌝ }
-    ensures { λ _. ⌜ now (marks .exit) ≡ added (now (marks .entry)) key ⌝ }
+    ensures { λ r. ⌜ Added (now (marks .entry)) key (now (marks .exit)) r ⌝ }
 {
     let k = wide(key);
     let at = k / 8;
     let byte = marks[at];
     if has_bit(byte, k % 8) {
-        return;
+        return 0;
     }
     marks[at] = with_bit(byte, k % 8);
+    1
 }
 
 // The least number that is not in the set; the caller knows that one is missing.
@@ -79,47 +76,41 @@ pub fn least_missing(marks: &[u8; BYTES]) -> u16
     k
 }
 
-// How many numbers the set has. Bytes with none are passed at once.
-pub fn size(marks: &[u8; BYTES]) -> usize
-    requires { ⌜ length (now marks) ≡ 8192 ⌝ }
-    ensures { λ r. ⌜ r ≡ length (membersBelow (now (marks .entry)) 65536) ⌝ }
+// Writes the numbers of byte i to the row, from place m on: the place after them. The caller has seen that the row is long enough.
+fn list_byte(marks: &[u8; BYTES], i: usize, m: usize, row: &mut [u16]) -> usize
+    requires { ⌜ (length (now marks) ≡ 8192) × (i < 8192) × (m ≡ length (membersBelow (now marks) (i * 8))) ⌝ }
+    requires { ⌜ length (membersBelow (now marks) 65536) ≤ length (now row) ⌝ }
+    ensures { λ r. ⌜ ((old : List ℕ) → Listed (now (marks .entry)) old (i * 8) m (now (row .entry)) → Listed (now (marks .entry)) old (i * 8 + 8) r (now (row .exit))) ⌝ }
 {
-    let mut k: usize = 0;
-    let mut n: usize = 0;
-    while k < KEYS {
-        if marks[k / 8] == 0 {
-            k = (k / 8 + 1) * 8;
-            continue;
-        }
-        if has(marks, k as u16) {
+    let byte = marks[i];
+    let mut j: usize = 0;
+    let mut n = m;
+    while j < 8 {
+        if has_bit(byte, j) {
+            row[n] = (i * 8 + j) as u16;
             n += 1;
-            k += 1;
+            j += 1;
             continue;
         }
-        k += 1;
+        j += 1;
     }
     n
 }
 
-// Writes the numbers of the set to the front of a row, ascending; the caller has seen that the row is long enough.
-pub fn list(marks: &[u8; BYTES], row: &mut [u16])
+// Writes the n numbers of the set to the front of a row, ascending; the caller has seen that the row is long enough. Bytes with none are
+// passed at once, and those after the last number are not looked at.
+pub fn list(marks: &[u8; BYTES], n: usize, row: &mut [u16])
     requires { ⌜ length (now marks) ≡ 8192 ⌝ }
-    requires { ⌜ length (membersBelow (now marks) 65536) ≤ length (now row) ⌝ }
+    requires { ⌜ (n ≡ length (membersBelow (now marks) 65536)) × (n ≤ length (now row)) ⌝ }
     ensures { λ _. ⌜ Fronted (membersBelow (now (marks .entry)) 65536) (now (row .entry)) (now (row .exit)) ⌝ }
 {
-    let mut k: usize = 0;
-    let mut n: usize = 0;
-    while k < KEYS {
-        if marks[k / 8] == 0 {
-            k = (k / 8 + 1) * 8;
-            continue;
+    let mut i: usize = 0;
+    let mut m: usize = 0;
+    while m < n {
+        while marks[i] == 0 {
+            i += 1;
         }
-        if has(marks, k as u16) {
-            row[n] = k as u16;
-            n += 1;
-            k += 1;
-            continue;
-        }
-        k += 1;
+        m = list_byte(marks, i, m, row);
+        i += 1;
     }
 }

@@ -1,14 +1,15 @@
 -- Ranks number the members of a set: they ascend with the members, start at 0, and end at the number of different members.
-use mathlib.Core.Path.{_≡_, refl, sym, ap, _∙_}
-use mathlib.Core.Logic.{inl, _↔_}
+use mathlib.Core.Path.{_≡_, refl, sym, _∙_}
+use mathlib.Core.Logic.{_↔_}
 use mathlib.Core.List.{List, [], _∷_}
 use mathlib.Core.Bool.{Bool, true, false}
 use Prim.Native.Nat.{ℕ, zero, suc, _+_, _-_, _<_, _≤_}
 use native.Mathlib.Decide.{ℕ-discrete, decLt}
 use native.Mathlib.Omega.{arith}
+use lib.ListN.{length, length-append}
 use Rattle.ccsk.specs.Numbers.{In, distinct}
-use Rattle.ccsk.proofs.Lists.{without, in-without, distinct-without, gone}
-use Rattle.keyset.specs.Set.{member}
+use Rattle.keyset.specs.Set.{member, tick, membersBelow}
+use Rattle.keyset.proofs.Counts.{members-count}
 use Rattle.rank.specs.Rank.{one-more, rank}
 
 true-false : {A : Type 0} → _≡_ {A = Bool} true false → A
@@ -75,33 +76,16 @@ rank-reached s (suc n) r h = pick (member s n) refl (ℕ-discrete r (rank s n)) 
     pick true e (no q) f = up (f (omega (arith, rank-in s n e)))
     pick false e d f = up (f (omega (arith, rank-out s n e)))
 
--- a list of the members below n, one number less
-Members : List ℕ → ℕ → List ℕ → Type 0
-Members s n l = (k : ℕ) → In k l ↔ ((k < n) × (member s k ≡ true))
-
-members-without : (s : List ℕ) (n : ℕ) (l : List ℕ) → Members s (suc n) l → Members s n (without n l)
-unfolding Members
-members-without s n l f k = at (ℕ-discrete k n)
+-- a rank is the length of a list
+pub rank-length : (s : List ℕ) (k : ℕ) → rank s k ≡ length (membersBelow s k)
+unfolding rank membersBelow
+rank-length s zero = refl
+rank-length s (suc k) = pick (member s k) (rank-length s k)
   where
-    at : Dec (k ≡ n) → In k (without n l) ↔ ((k < n) × (member s k ≡ true))
-    at (yes q) = (λ i. absurd (gone n l (rw q at i)), λ h. absurd (omega arith))
-    at (no q) = (λ i. let w = f k .0 (in-without k n l q .0 i) in (omega arith, w .1), λ h. in-without k n l q .1 (f k .1 (omega arith, h .1)))
-
-members-same : (s : List ℕ) (n : ℕ) (l : List ℕ) → member s n ≡ false → Members s (suc n) l → Members s n l
-unfolding Members
-members-same s n l e f k = (λ i. smaller (f k .0 i) (ℕ-discrete k n), λ h. f k .1 (omega arith, h .1))
-  where
-    smaller : (k < suc n) × (member s k ≡ true) → Dec (k ≡ n) → (k < n) × (member s k ≡ true)
-    smaller h (yes q) = true-false (sym (h .1) ∙ rw q e)
-    smaller h (no q) = (omega arith, h .1)
+    pick : (b : Bool) → rank s k ≡ length (membersBelow s k) → one-more b (rank s k) ≡ length (tick b k (membersBelow s k))
+    pick true e = omega (arith, e, length-append (membersBelow s k) (k ∷ []))
+    pick false e = e
 
 -- the rank of n is how many different numbers a list has whose numbers are the members below n
 pub rank-counts : (s : List ℕ) (n : ℕ) (l : List ℕ) → ((k : ℕ) → In k l ↔ ((k < n) × (member s k ≡ true))) → rank s n ≡ distinct l
-unfolding rank distinct Members
-rank-counts s zero [] f = refl
-rank-counts s zero (a ∷ l) f = absurd (omega (arith, f a .0 (inl refl) .0))
-rank-counts s (suc n) l f = pick (member s n) refl (λ e. rank-counts s n (without n l) (members-without s n l f)) (λ e. rank-counts s n l (members-same s n l e f))
-  where
-    pick : (b : Bool) → member s n ≡ b → (member s n ≡ true → rank s n ≡ distinct (without n l)) → (member s n ≡ false → rank s n ≡ distinct l) → one-more b (rank s n) ≡ distinct l
-    pick true e g h = ap suc (g e) ∙ sym (distinct-without n l (f n .1 (omega arith, e)))
-    pick false e g h = h e
+rank-counts s n l f = rank-length s n ∙ members-count s n l f

@@ -15,15 +15,15 @@ pub enum Row {
     Count(usize),
 }
 
-// Writes the keys of a set to the front of the row, ascending, unless the row is too short. A helper between crates: the set's array is whole.
-pub fn fill(marks: &[u8; BYTES], row: &mut [u16]) -> Row
-    requires { ⌜ length (now marks) ≡ 8192 ⌝ }
+// Writes the n keys of a set to the front of the row, ascending, unless the row is too short. A helper between crates: the set's array is
+// whole, and the caller has counted its keys.
+pub fn fill(marks: &[u8; BYTES], n: usize, row: &mut [u16]) -> Row
+    requires { ⌜ (length (now marks) ≡ 8192) × (n ≡ length (membersBelow (now marks) 65536)) ⌝ }
     ensures { λ r. ⌜ Filled (membersBelow (now (marks .entry)) 65536) (now (row .entry)) (refusal r) (count r) (now (row .exit)) ⌝ }
 {
-    let n = keyset::size(marks);
     if row.len() < n {
         return Row::Refused(SHORT);
     }
-    keyset::list(marks, row);
+    keyset::list(marks, n, row);
     Row::Count(n)
 }

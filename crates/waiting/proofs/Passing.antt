@@ -6,6 +6,7 @@ use Prim.Native.Nat.{ℕ, zero, suc, _+_, _≤_, _<_}
 use native.Mathlib.Decide.{ℕ-discrete}
 use native.Mathlib.Omega.{arith}
 use lib.ListN.{length, getD, length-append, length-drop}
+use Rattle.ccsk.specs.Numbers.{distinct}
 use Rattle.ccsk.specs.Term.{Term, Key, nil, pre, cho, par, res, keys, done}
 use Rattle.ccsk.proofs.Lists.{without, without-append, without-same, without-other}
 use Rattle.format.specs.Encode.{encode}
@@ -85,8 +86,8 @@ marked-key due k m r p h T = pick (ℕ-discrete k m)
     pick (yes e) = rw (e, T .same e) (without-itself m p)
     pick (no e) = rw (T .other h e) (without-done m k (λ z. e (sym z)))
 
--- Up to the place `at` of the record s the keys below m were marked. Of the terms that are due, the first ones stand below m, as many as `due` says.
-pub record Under (s marks : List ℕ) (m at due : ℕ) : Type 0 where
+-- Up to the place `at` of the record s the keys below m were marked, n different ones. Of the terms that are due, the first ones stand below m, as many as `due` says.
+pub record Under (s marks : List ℕ) (m at due n : ℕ) : Type 0 where
   pub of : Term
   pub whole : RecordOf s of
   pub inside : List Term
@@ -96,10 +97,12 @@ pub record Under (s marks : List ℕ) (m at due : ℕ) : Type 0 where
   pub past : List Key
   pub all : past ++ (keysOf inside ++ belowOf m outside) ≡ below m of
   pub holds : Holds marks (without m past)
+  pub number : n ≡ distinct (without m past)
+  pub few : n ≤ at
   pub reach : at ≤ length s
 
-pub start : (s marks : List ℕ) (m : Key) → Readable s → Holds marks [] → Under s marks m 0 0
-unfolding keysOf belowOf without
+pub start : (s marks : List ℕ) (m : Key) → Readable s → Holds marks [] → Under s marks m 0 0 0
+unfolding keysOf belowOf without distinct
 start s marks m R H = record {
   of = R .0;
   whole = R .1;
@@ -110,24 +113,29 @@ start s marks m R H = record {
   past = [];
   all = append-nil (below m (R .0));
   holds = H;
+  number = refl;
+  few = omega arith;
   reach = omega arith;
 }
 
-module _ (s marks : List ℕ) (m at due : ℕ) (P : Under s marks m at due) where
+module _ (s marks : List ℕ) (m at due n : ℕ) (P : Under s marks m at due n) where
   -- no more terms are due than bytes are left
   pub due-small : due ≤ length s
   due-small = omega (arith, P .count, length-append (P .inside) (P .outside), few (P .inside ++ P .outside), ap length (P .terms), length-drop at s)
 
   pub onward : (h : at < length s) → 0 < m → (k : Key) → k ≡ keyAt s at → (r : Key) → ToMark due k m r → (marks′ : List ℕ) (x : ℕ) → Marked marks r marks′ x
-      → (b : ℕ) → b ≡ getD s at 0 → (d : ℕ) → DueAfter due k m b d → Under s marks′ m (at + (1 + bodyLength b)) d
+      → (b : ℕ) → b ≡ getD s at 0 → (d : ℕ) → DueAfter due k m (childCount b) d → Under s marks′ m (at + (1 + bodyLength b)) d (n + x)
   unfolding keysOf
   onward h p k q r T marks′ x M b e d D = go (P .inside) (P .terms) (P .count) (P .all)
     where
-      w : Holds marks′ (without m (P .past) ++ done r [])
-      w = M .more (without m (P .past)) (P .holds) .0
+      w : Holds marks′ (without m (P .past) ++ done r []) × (distinct (without m (P .past) ++ done r []) ≡ distinct (without m (P .past)) + x)
+      w = M .more (without m (P .past)) (P .holds)
+
+      small : n + x ≤ at + (1 + bodyLength b)
+      small = omega (arith, P .few, M .one)
 
       go : (ins : List Term) → Due s at (ins ++ P .outside) → due ≡ length ins → P .past ++ (keysOf ins ++ belowOf m (P .outside)) ≡ below m (P .of)
-          → Under s marks′ m (at + (1 + bodyLength b)) d
+          → Under s marks′ m (at + (1 + bodyLength b)) d (n + x)
       go [] t c a = pick (ℕ-discrete k m)
         where
           key : k ≡ headKey (P .outside)
@@ -139,10 +147,10 @@ module _ (s marks : List ℕ) (m at due : ℕ) (P : Under s marks m at due) wher
           end : at + (1 + bodyLength b) ≤ length s
           end = ends-within s at (P .outside) t h b e
 
-          same : Holds marks′ (without m (P .past))
+          same : Holds marks′ (without m (P .past)) × (distinct (without m (P .past)) ≡ distinct (without m (P .past)) + x)
           same = rw (T .outside c, append-nil) at w
 
-          pick : Dec (k ≡ m) → Under s marks′ m (at + (1 + bodyLength b)) d
+          pick : Dec (k ≡ m) → Under s marks′ m (at + (1 + bodyLength b)) d (n + x)
           pick (yes z) =
               let v = below-enter m (P .outside) p (sym key ∙ z) in
               record {
@@ -154,7 +162,9 @@ module _ (s marks : List ℕ) (m at due : ℕ) (P : Under s marks m at due) wher
                 count = D .enters c z;
                 past = P .past;
                 all = rw (keys-one (v .0), ← v .3) a;
-                holds = same;
+                holds = same .0;
+                number = omega (arith, P .number, same .1);
+                few = small;
                 reach = end;
               }
           pick (no z) = record {
@@ -166,7 +176,9 @@ module _ (s marks : List ℕ) (m at due : ℕ) (P : Under s marks m at due) wher
             count = D .passes c z;
             past = P .past;
             all = rw (← below-pass m (P .outside) (λ y. z (key ∙ y))) a;
-            holds = same;
+            holds = same .0;
+            number = omega (arith, P .number, same .1);
+            few = small;
             reach = end;
           }
       go (u ∷ ins) t c a =
@@ -174,6 +186,7 @@ module _ (s marks : List ℕ) (m at due : ℕ) (P : Under s marks m at due) wher
           let kind : b ≡ headKind (u ∷ ins) = e ∙ kind-here s at ((u ∷ ins) ++ P .outside) t h ∙ g .kind in
           let key : k ≡ headKey (u ∷ ins) = q ∙ key-here s at ((u ∷ ins) ++ P .outside) t h ∙ g .key in
           let first : keysOf (u ∷ ins) ≡ done k [] ++ keysOf (after (u ∷ ins)) = rw key (keys-head (u ∷ ins)) in
+          let more = rw (← marked-key due k m r p (omega arith) T, ← without-append m (P .past) (done k [])) at w in
           record {
             of = P .of;
             whole = P .whole;
@@ -184,13 +197,17 @@ module _ (s marks : List ℕ) (m at due : ℕ) (P : Under s marks m at due) wher
             past = P .past ++ done k [];
             all = append-assoc (P .past) (done k []) (keysOf (after (u ∷ ins)) ++ belowOf m (P .outside))
                 ∙ ap (λ (l : List Key). P .past ++ l) (sym (append-assoc (done k []) (keysOf (after (u ∷ ins))) (belowOf m (P .outside))) ∙ ap (λ (l : List Key). l ++ belowOf m (P .outside)) (sym first)) ∙ a;
-            holds = rw (without-append m (P .past) (done k []), marked-key due k m r p (omega arith) T) w;
+            holds = more .0;
+            number = omega (arith, P .number, more .1);
+            few = small;
             reach = ends-within s at ((u ∷ ins) ++ P .outside) t h b e;
           }
 
-  pub marked-below : length s ≤ at → MarkedBelow s m marks
+  pub marked-below : length s ≤ at → MarkedBelow s m marks n
   unfolding keysOf belowOf
-  marked-below h = (P .of, P .whole, subst (λ (l : List Key). Holds marks (without m l)) (whole (P .inside) (P .outside) (none-due s at (P .inside ++ P .outside) h (P .terms)) (P .all)) (P .holds))
+  marked-below h =
+      let e = whole (P .inside) (P .outside) (none-due s at (P .inside ++ P .outside) h (P .terms)) (P .all) in
+      (P .of, P .whole, subst (λ (l : List Key). Holds marks (without m l)) e (P .holds), P .number ∙ ap (λ (l : List Key). distinct (without m l)) e)
     where
       whole : (x y : List Term) → x ++ y ≡ [] → P .past ++ (keysOf x ++ belowOf m y) ≡ below m (P .of) → P .past ≡ below m (P .of)
       whole [] [] e a = sym (append-nil (P .past)) ∙ a

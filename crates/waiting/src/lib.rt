@@ -1,10 +1,10 @@
 // Waiting list of a key (01, Operations and their refusals): which keys must be undone before it.
 ghost use mathlib.Core.List.{[]};
-ghost use Prim.Native.Nat.{_<_};
+ghost use Prim.Native.Nat.{_<_, _≤_};
 ghost use Rattle.operations.specs.Ask.{WaitingList};
 ghost use Rattle.keys.specs.Gather.{Readable, Holds};
 ghost use Rattle.rows.specs.Row.{refusal, count};
-ghost use Rattle.waiting.specs.Below.{Stands, ToMark, DueAfter, MarkedBelow};
+ghost use Rattle.waiting.specs.Below.{Stands, MetBy, ToMark, DueAfter, MarkedBelow};
 use keyset::BYTES;
 use reader::Count;
 use rows::Row;
@@ -14,20 +14,20 @@ pub const KEY_ZERO: u8 = 3;
 
 pub const KEY_ABSENT: u8 = 7;
 
-// Whether a key above 0 stands in a readable record.
-fn stands(bytes: &[u8], key: u16) -> bool
-    requires { ⌜ Readable (now bytes) ⌝ }
-    requires { ⌜ 0 < key ⌝ }
-    ensures { λ r. ⌜ Stands (now (bytes .entry)) key r ⌝ }
+// What passing over a record comes to: whether the key was met, and how many different keys stand below it.
+struct Passed {
+    met: bool,
+    below: usize,
+}
+
+// Whether the key was met, after a node that holds `here`.
+fn met_by(met: bool, here: u16, key: u16) -> bool
+    ensures { λ r. ⌜ MetBy met here key r ⌝ }
 {
-    let mut at: usize = 0;
-    while at < bytes.len() {
-        if keys::key_at(bytes, at) == key {
-            return true;
-        }
-        at += 1 + reader::body_length(reader::wide(bytes[at]));
+    if here == key {
+        return true;
     }
-    false
+    met
 }
 
 // Which key to mark at a node that holds `here`: its own if the node is one of those below `key`, but never `key` itself. 0 is none.
@@ -43,13 +43,14 @@ fn to_mark(due: usize, here: u16, key: u16) -> u16
     here
 }
 
-// How many terms below `key` are due after a node of that kind, which holds `here`. Outside, a node that holds `key` begins with its one child.
-fn due_after(due: usize, here: u16, key: u16, kind: usize) -> usize
-    requires { ⌜ (kind < 5) × (due < 9223372036854775808) ⌝ }
-    ensures { λ r. ⌜ DueAfter due here key kind r ⌝ }
+// How many terms below `key` are due after a node with so many children, which holds `here`. Outside, a node that holds `key` begins with its
+// one child.
+fn due_after(due: usize, here: u16, key: u16, children: usize) -> usize
+    requires { ⌜ (children ≤ 2) × (due < 9223372036854775808) ⌝ }
+    ensures { λ r. ⌜ DueAfter due here key children r ⌝ }
 {
     if 0 < due {
-        return due - 1 + reader::child_count(kind);
+        return due - 1 + children;
     }
     if here == key {
         return 1;
@@ -57,22 +58,29 @@ fn due_after(due: usize, here: u16, key: u16, kind: usize) -> usize
     0
 }
 
-// Marks in an empty set the keys that stand below a prefix that holds `key`, without `key` itself.
-fn mark_below(bytes: &[u8], key: u16, marks: &mut [u8; BYTES])
+// Marks in an empty set the keys that stand below a prefix that holds `key`, without `key` itself, and counts them. The tables of the kinds
+// are laid out once, before the walk.
+fn mark_below(bytes: &[u8], key: u16, marks: &mut [u8; BYTES]) -> Passed
     requires { ⌜ Readable (now bytes) ⌝ }
     requires { ⌜ 0 < key ⌝ }
     requires { ⌜ Holds (now marks) [] ⌝ }
-    ensures { λ _. ⌜ MarkedBelow (now (bytes .entry)) key (now (marks .exit)) ⌝ }
+    ensures { λ r. ⌜ Stands (now (bytes .entry)) key (r .met) × MarkedBelow (now (bytes .entry)) key (now (marks .exit)) (r .below) ⌝ }
 {
+    let body = reader::BODY;
+    let children = reader::CHILDREN;
     let mut at: usize = 0;
     let mut due: usize = 0;
+    let mut met = false;
+    let mut n: usize = 0;
     while at < bytes.len() {
         let kind = reader::wide(bytes[at]);
         let here = keys::key_at(bytes, at);
-        keys::mark(marks, to_mark(due, here, key));
-        due = due_after(due, here, key, kind);
-        at += 1 + reader::body_length(kind);
+        n += keys::mark(marks, to_mark(due, here, key));
+        met = met_by(met, here, key);
+        due = due_after(due, here, key, reader::wide(children[kind]));
+        at += 1 + reader::wide(body[kind]);
     }
+    Passed { met: met, below: n }
 }
 
 // The waiting list of a key in a readable record.
@@ -83,10 +91,10 @@ fn list_waiting(bytes: &[u8], key: u16, row: &mut [u16]) -> Row
     if key == 0 {
         return Row::Refused(KEY_ZERO);
     }
-    if stands(bytes, key) {
-        let mut marks = [0u8; BYTES];
-        mark_below(bytes, key, &mut marks);
-        return rows::fill(&marks, row);
+    let mut marks = [0u8; BYTES];
+    let passed = mark_below(bytes, key, &mut marks);
+    if passed.met {
+        return rows::fill(&marks, passed.below, row);
     }
     Row::Refused(KEY_ABSENT)
 }

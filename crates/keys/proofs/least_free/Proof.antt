@@ -22,16 +22,16 @@ add-requires : tie.Need-add-requires
 add-requires c κs = gathered (c .before .before .before .before .before .before .args .bytes .now) _ (c .before .before .before .gather .result) (c .before .before .before .gather .ensures) _ (c .before .enum-told .given .1) .holds .whole
 
 least-missing-requires : tie.Need-least-missing-requires
-least-missing-requires c κs = let S = gathered (c .before .before .before .before .before .before .before .before .args .bytes .now) _ (c .before .before .before .before .before .gather .result) (c .before .before .before .before .before .gather .ensures) _ (c .before .before .before .enum-told .given .1) in (ap length (c .before .add .ensures) ∙ length-added _ 0 ∙ S .holds .whole, some-missing (c .before .before .before .before .before .before .before .before .args .bytes .now) _ _ S _ (c .before .add .ensures))
+least-missing-requires c κs = let S = gathered (c .before .before .before .before .before .before .before .before .args .bytes .now) _ (c .before .before .before .before .before .gather .result) (c .before .before .before .before .before .gather .ensures) _ (c .before .before .before .enum-told .given .1) in (ap length (c .before .add .ensures .result) ∙ length-added _ 0 ∙ S .holds .whole, some-missing (c .before .before .before .before .before .before .before .before .args .bytes .now) _ _ S _ (c .before .add .ensures .result))
 
-cast-t11 : tie.Need-cast-t11
-cast-t11 c = search needs
+cast-free : tie.Need-cast-free
+cast-free c = search needs
 
 returns : tie.Need-returns
 returns c = FreeKey.unreadable (gathered-refused (c .before .before .before .before .before .before .args .bytes .now) _ (c .before .before .before .gather .result) (c .before .before .before .gather .ensures) _ (c .before .c .given .1))
 
 returns-2 : tie.Need-returns-2
-returns-2 c = let S = gathered (c .before .before .before .before .before .before .before .before .before .args .bytes .now) _ (c .before .before .before .before .before .before .gather .result) (c .before .before .before .before .before .before .gather .ensures) _ (c .before .before .before .before .enum-told .given .1) in freed (c .before .before .before .before .before .before .before .before .before .args .bytes .now) _ _ S _ (c .before .before .add .ensures) (c .least-missing .result) (c .least-missing .ensures)
+returns-2 c = let S = gathered (c .before .before .before .before .before .before .before .before .before .args .bytes .now) _ (c .before .before .before .before .before .before .gather .result) (c .before .before .before .before .before .before .gather .ensures) _ (c .before .before .before .before .enum-told .given .1) in freed (c .before .before .before .before .before .before .before .before .before .args .bytes .now) _ _ S _ (c .before .before .add .ensures .result) (c .least-missing .result) (c .least-missing .ensures)
 
 pub least-free-spec : {M : Type 1} → statement M
 least-free-spec =
@@ -42,6 +42,6 @@ least-free-spec =
     enum-told
     add-requires
     least-missing-requires
-    cast-t11
+    cast-free
     returns
     returns-2)

@@ -9,22 +9,13 @@ use Rattle.keys.proofs.scan.Statement.{statement}
 use Rattle.keys.proofs.scan.Tie as tie
 
 abbrev Inv-loop : tie.InvT-loop
-Inv-loop bytes marks₀ at₀ n₀ marks at n = Passed bytes marks at n
+Inv-loop bytes marks₀ body at₀ n₀ marks at n = Passed bytes marks at n
 
 abbrev μ-loop : tie.MeasureT-loop
-μ-loop bytes marks₀ at₀ n₀ marks at n = length bytes - at
+μ-loop bytes marks₀ body at₀ n₀ marks at n = length bytes - at
 
 loop-holds : tie.Need-loop-holds Inv-loop μ-loop
 loop-holds c = start (c .before .args .bytes .now) (c .before .args .marks .now) (c .before .pre .0) (c .before .pre .1)
-
-key-at-requires : tie.Need-key-at-requires Inv-loop μ-loop
-key-at-requires c κs = (c .before .loop-test .taken, key-within (c .before .before .before .before .args .bytes .now) (c .before .before .loop .at) _ (c .before .before .loop .inv .due) (c .before .loop-test .taken))
-
-mark-requires : tie.Need-mark-requires Inv-loop μ-loop
-mark-requires c κs = c .before .before .before .loop .inv .holds .whole
-
-add-n : tie.Need-add-n Inv-loop μ-loop
-add-n c = omega (arith, c .before .before .before .before .loop .inv .few, c .mark .ensures .one)
 
 shared-slice-read-wide : tie.Need-shared-slice-read-wide Inv-loop μ-loop
 shared-slice-read-wide c = search needs
@@ -32,20 +23,32 @@ shared-slice-read-wide c = search needs
 wide-requires : tie.Need-wide-requires Inv-loop μ-loop
 wide-requires c κs = search needs
 
-body-length-requires : tie.Need-body-length-requires Inv-loop μ-loop
-body-length-requires c κs = omega (arith, kind-known (c .before .before .before .before .before .before .before .before .args .bytes .now) (c .before .before .before .before .before .before .loop .at) _ (c .before .before .before .before .before .before .loop .inv .due) (c .before .before .before .before .before .loop-test .taken) (c .wide .result) (c .wide .ensures))
+key-at-requires : tie.Need-key-at-requires Inv-loop μ-loop
+key-at-requires c κs = (c .before .before .before .loop-test .taken, key-within (c .before .before .before .before .before .before .args .bytes .now) (c .before .before .before .before .loop .at) _ (c .before .before .before .before .loop .inv .due) (c .before .before .before .loop-test .taken))
+
+mark-requires : tie.Need-mark-requires Inv-loop μ-loop
+mark-requires c κs = c .before .before .before .before .before .loop .inv .holds .whole
+
+add-n : tie.Need-add-n Inv-loop μ-loop
+add-n c = omega (arith, c .before .before .before .before .before .before .loop .inv .few, c .mark .ensures .one)
+
+array-read-wide : tie.Need-array-read-wide Inv-loop μ-loop
+array-read-wide c = kind-known (c .before .before .before .before .before .before .before .before .args .bytes .now) (c .before .before .before .before .before .before .loop .at) _ (c .before .before .before .before .before .before .loop .inv .due) (c .before .before .before .before .before .loop-test .taken) (c .before .before .before .wide .result) (c .before .before .before .wide .ensures)
+
+wide-requires-2 : tie.Need-wide-requires-2 Inv-loop μ-loop
+wide-requires-2 c κs = search needs
 
 add-at : tie.Need-add-at Inv-loop μ-loop
-add-at c = omega (arith, ends-within (c .before .before .before .before .before .before .before .before .before .args .bytes .now) (c .before .before .before .before .before .before .before .loop .at) _ (c .before .before .before .before .before .before .before .loop .inv .due) (c .before .before .before .before .before .before .loop-test .taken) (c .before .wide .result) (c .before .wide .ensures), c .body-length .ensures)
+add-at c = omega (arith, ends-within (c .before .before .before .before .before .before .before .before .before .args .bytes .now) (c .before .before .before .before .before .before .before .loop .at) _ (c .before .before .before .before .before .before .before .loop .inv .due) (c .before .before .before .before .before .before .loop-test .taken) (c .before .before .before .before .wide .result) (c .before .before .before .before .wide .ensures), c .wide2 .ensures)
 
 add-at-2 : tie.Need-add-at-2 Inv-loop μ-loop
-add-at-2 c = omega (arith, ends-within (c .before .before .before .before .before .before .before .before .before .args .bytes .now) (c .before .before .before .before .before .before .before .loop .at) _ (c .before .before .before .before .before .before .before .loop .inv .due) (c .before .before .before .before .before .before .loop-test .taken) (c .before .wide .result) (c .before .wide .ensures), c .body-length .ensures)
+add-at-2 c = omega (arith, ends-within (c .before .before .before .before .before .before .before .before .before .args .bytes .now) (c .before .before .before .before .before .before .before .loop .at) _ (c .before .before .before .before .before .before .before .loop .inv .due) (c .before .before .before .before .before .before .loop-test .taken) (c .before .before .before .before .wide .result) (c .before .before .before .before .wide .ensures), c .wide2 .ensures)
 
 loop-less : tie.Need-loop-less Inv-loop μ-loop
-loop-less c = omega (arith, ends-within (c .before .before .before .before .before .before .before .before .before .args .bytes .now) (c .before .before .before .before .before .before .before .loop .at) _ (c .before .before .before .before .before .before .before .loop .inv .due) (c .before .before .before .before .before .before .loop-test .taken) (c .before .wide .result) (c .before .wide .ensures), c .body-length .ensures)
+loop-less c = omega (arith, ends-within (c .before .before .before .before .before .before .before .before .before .args .bytes .now) (c .before .before .before .before .before .before .before .loop .at) _ (c .before .before .before .before .before .before .before .loop .inv .due) (c .before .before .before .before .before .before .loop-test .taken) (c .before .before .before .before .wide .result) (c .before .before .before .before .wide .ensures), c .wide2 .ensures)
 
 loop-again : tie.Need-loop-again Inv-loop μ-loop
-loop-again c = rw (c .body-length .ensures) (onward (c .before .before .before .before .before .before .before .before .before .args .bytes .now) (c .before .before .before .before .before .before .before .loop .marks) (c .before .before .before .before .before .before .before .loop .at) (c .before .before .before .before .before .before .before .loop .n) (c .before .before .before .before .before .before .before .loop .inv) (c .before .before .before .before .before .before .loop-test .taken) (c .before .before .before .before .key-at .result) (c .before .before .before .before .key-at .ensures) _ (c .before .before .before .mark .result) (c .before .before .before .mark .ensures) (c .before .wide .result) (c .before .wide .ensures))
+loop-again c = rw (c .wide2 .ensures) (onward (c .before .before .before .before .before .before .before .before .before .args .bytes .now) (c .before .before .before .before .before .before .before .loop .marks) (c .before .before .before .before .before .before .before .loop .at) (c .before .before .before .before .before .before .before .loop .n) (c .before .before .before .before .before .before .before .loop .inv) (c .before .before .before .before .before .before .loop-test .taken) (c .before .before .key-at .result) (c .before .before .key-at .ensures) _ (c .before .mark .result) (c .before .mark .ensures) (c .before .before .before .before .wide .result) (c .before .before .before .before .wide .ensures))
 
 returns : tie.Need-returns Inv-loop μ-loop
 returns c = scanned (c .before .before .before .args .bytes .now) (c .before .loop .marks) (c .before .loop .at) (c .before .loop .n) (c .before .loop .inv) (c .loop-test .left)
@@ -57,12 +60,13 @@ scan-spec =
     Inv-loop
     μ-loop
     loop-holds
+    shared-slice-read-wide
+    wide-requires
     key-at-requires
     mark-requires
     add-n
-    shared-slice-read-wide
-    wide-requires
-    body-length-requires
+    array-read-wide
+    wide-requires-2
     add-at
     add-at-2
     loop-less

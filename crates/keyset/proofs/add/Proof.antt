@@ -1,4 +1,3 @@
--- crates/keyset/proofs/has/Proof.antt
 -- `add` meets its contract: the one byte of the key gets its bit, if it had it not.
 use native.Mathlib.Omega.{arith}
 use Rattle.keyset.proofs.Steps.{kept, bit-free, put-in}

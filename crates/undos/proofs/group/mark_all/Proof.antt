@@ -38,7 +38,7 @@ loop-less : tie.Need-loop-less Inv-loop μ-loop
 loop-less c = omega arith
 
 loop-again : tie.Need-loop-again Inv-loop μ-loop
-loop-again c = let b = c .before .before .before .before .before .pre .3 (getD (c .before .before .before .before .before .args .all .now) (c .before .before .before .before .loop .i) 0) (in-front (c .before .before .before .before .before .args .all .now) (c .before .before .before .before .loop .i) (c .before .before .before .before .before .args .n) (omega arith) (omega arith)) in (omega arith, ap length (c .add .ensures) ∙ length-added _ _ ∙ c .before .before .before .before .loop .inv .1, rw (c .add .ensures) (marks-more (c .before .before .before .before .before .args .all .now) (c .before .before .before .before .loop .marks) (c .before .before .before .before .loop .i) (c .before .before .before .before .loop .inv .1) (omega arith) b (c .before .before .before .before .loop .inv .2)))
+loop-again c = let b = c .before .before .before .before .before .pre .3 (getD (c .before .before .before .before .before .args .all .now) (c .before .before .before .before .loop .i) 0) (in-front (c .before .before .before .before .before .args .all .now) (c .before .before .before .before .loop .i) (c .before .before .before .before .before .args .n) (omega arith) (omega arith)) in (omega arith, ap length (c .add .ensures .result) ∙ length-added _ _ ∙ c .before .before .before .before .loop .inv .1, rw (c .add .ensures .result) (marks-more (c .before .before .before .before .before .args .all .now) (c .before .before .before .before .loop .marks) (c .before .before .before .before .loop .i) (c .before .before .before .before .loop .inv .1) (omega arith) b (c .before .before .before .before .loop .inv .2)))
 
 returns : tie.Need-returns Inv-loop μ-loop
 returns c = marks-set (c .before .before .args .all .now) (c .before .loop .marks) (c .before .loop .i) (c .before .before .args .n) (omega arith) (c .before .loop .inv .1) (c .before .loop .inv .2)

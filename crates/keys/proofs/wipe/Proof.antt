@@ -1,0 +1,85 @@
+-- `wipe` meets its contract: at each node the keys passed so far are marked and counted, by the laws of Passing on the record as it was,
+-- and the front of the bytes is the blank form's, by the laws of Clearing.
+use borrow.Author.Needs.{needs}
+use native.Mathlib.Omega.{arith}
+use mathlib.Core.Path.{_∙_}
+use Prim.Native.Nat.{_-_}
+use lib.ListN.{length}
+use Rattle.format.proofs.Flat.{key-within, kind-known, ends-within}
+use Rattle.keys.proofs.Passing.{Passed, start, onward, scanned}
+use Rattle.keys.proofs.Clearing as clearing
+use Rattle.keys.proofs.wipe.Statement.{statement}
+use Rattle.keys.proofs.wipe.Tie as tie
+
+abbrev Inv-loop : tie.InvT-loop
+Inv-loop bytes₀ marks₀ body at₀ n₀ bytes marks at n = Passed bytes₀ marks at n × clearing.Clearing bytes₀ bytes at
+
+abbrev μ-loop : tie.MeasureT-loop
+μ-loop bytes₀ marks₀ body at₀ n₀ bytes marks at n = length bytes - at
+
+loop-holds : tie.Need-loop-holds Inv-loop μ-loop
+loop-holds c = (start (c .before .args .bytes .now) (c .before .args .marks .now) (c .before .pre .0) (c .before .pre .1), clearing.start (c .before .args .bytes .now) (c .before .pre .0))
+
+slice-read-wide : tie.Need-slice-read-wide Inv-loop μ-loop
+slice-read-wide c = search needs
+
+wide-requires : tie.Need-wide-requires Inv-loop μ-loop
+wide-requires c κs = search needs
+
+key-at-requires : tie.Need-key-at-requires Inv-loop μ-loop
+key-at-requires c κs = (c .before .before .before .before .loop-test .taken, key-within (c .before .before .before .before .before .loop .bytes) (c .before .before .before .before .before .loop .at) _ (c .before .before .before .before .before .loop .inv .1 .due) (c .before .before .before .before .loop-test .taken))
+
+mark-requires : tie.Need-mark-requires Inv-loop μ-loop
+mark-requires c κs = c .before .before .before .before .before .before .loop .inv .0 .holds .whole
+
+add-n : tie.Need-add-n Inv-loop μ-loop
+add-n c = omega (arith, c .before .before .before .before .before .before .before .loop .inv .0 .few, c .mark .ensures .one)
+
+clear-at-requires : tie.Need-clear-at-requires Inv-loop μ-loop
+clear-at-requires c κs = (c .before .before .before .before .before .before .before .loop-test .taken, key-within (c .before .before .before .before .before .before .before .before .loop .bytes) (c .before .before .before .before .before .before .before .before .loop .at) _ (c .before .before .before .before .before .before .before .before .loop .inv .1 .due) (c .before .before .before .before .before .before .before .loop-test .taken))
+
+array-read-wide : tie.Need-array-read-wide Inv-loop μ-loop
+array-read-wide c = kind-known (c .before .before .before .before .before .before .before .before .before .before .before .loop .bytes) (c .before .before .before .before .before .before .before .before .before .before .before .loop .at) _ (c .before .before .before .before .before .before .before .before .before .before .before .loop .inv .1 .due) (c .before .before .before .before .before .before .before .before .before .before .loop-test .taken) (c .before .before .before .before .before .before .before .before .wide .result) (c .before .before .before .before .before .before .before .before .wide .ensures)
+
+wide-requires-2 : tie.Need-wide-requires-2 Inv-loop μ-loop
+wide-requires-2 c κs = search needs
+
+add-at : tie.Need-add-at Inv-loop μ-loop
+add-at c = omega (arith, ends-within (c .before .before .before .before .before .before .before .before .before .before .before .before .loop .bytes) (c .before .before .before .before .before .before .before .before .before .before .before .before .loop .at) _ (c .before .before .before .before .before .before .before .before .before .before .before .before .loop .inv .1 .due) (c .before .before .before .before .before .before .before .before .before .before .before .loop-test .taken) (c .before .before .before .before .before .before .before .before .before .wide .result) (c .before .before .before .before .before .before .before .before .before .wide .ensures), c .wide2 .ensures)
+
+add-at-2 : tie.Need-add-at-2 Inv-loop μ-loop
+add-at-2 c = omega (arith, ends-within (c .before .before .before .before .before .before .before .before .before .before .before .before .loop .bytes) (c .before .before .before .before .before .before .before .before .before .before .before .before .loop .at) _ (c .before .before .before .before .before .before .before .before .before .before .before .before .loop .inv .1 .due) (c .before .before .before .before .before .before .before .before .before .before .before .loop-test .taken) (c .before .before .before .before .before .before .before .before .before .wide .result) (c .before .before .before .before .before .before .before .before .before .wide .ensures), c .wide2 .ensures)
+
+loop-less : tie.Need-loop-less Inv-loop μ-loop
+loop-less c = omega (arith, ends-within (c .before .before .before .before .before .before .before .before .before .before .before .before .loop .bytes) (c .before .before .before .before .before .before .before .before .before .before .before .before .loop .at) _ (c .before .before .before .before .before .before .before .before .before .before .before .before .loop .inv .1 .due) (c .before .before .before .before .before .before .before .before .before .before .before .loop-test .taken) (c .before .before .before .before .before .before .before .before .before .wide .result) (c .before .before .before .before .before .before .before .before .before .wide .ensures), c .wide2 .ensures, c .before .before .before .clear-at .kept .0)
+
+loop-again : tie.Need-loop-again Inv-loop μ-loop
+loop-again c = rw (c .wide2 .ensures) (onward (c .before .before .before .before .before .before .before .before .before .before .before .before .before .before .args .bytes .now) (c .before .before .before .before .before .before .before .before .before .before .before .before .loop .marks) (c .before .before .before .before .before .before .before .before .before .before .before .before .loop .at) (c .before .before .before .before .before .before .before .before .before .before .before .before .loop .n) (c .before .before .before .before .before .before .before .before .before .before .before .before .loop .inv .0) (omega (arith, c .before .before .before .before .before .before .before .before .before .before .before .loop-test .taken, c .before .before .before .before .before .before .before .before .before .before .before .before .loop .inv .1 .same)) (c .before .before .before .before .before .before .key-at .result) (c .before .before .before .before .before .before .key-at .ensures ∙ clearing.same-key (c .before .before .before .before .before .before .before .before .before .before .before .before .before .before .args .bytes .now) (c .before .before .before .before .before .before .before .before .before .before .before .before .loop .bytes) (c .before .before .before .before .before .before .before .before .before .before .before .before .loop .at) (c .before .before .before .before .before .before .before .before .before .before .before .before .loop .inv .1)) _ (c .before .before .before .before .before .mark .result) (c .before .before .before .before .before .mark .ensures) (c .before .before .before .before .before .before .before .before .before .wide .result) (c .before .before .before .before .before .before .before .before .before .wide .ensures ∙ clearing.same-kind (c .before .before .before .before .before .before .before .before .before .before .before .before .before .before .args .bytes .now) (c .before .before .before .before .before .before .before .before .before .before .before .before .loop .bytes) (c .before .before .before .before .before .before .before .before .before .before .before .before .loop .at) (c .before .before .before .before .before .before .before .before .before .before .before .before .loop .inv .1)), clearing.onward (c .before .before .before .before .before .before .before .before .before .before .before .before .before .before .args .bytes .now) (c .before .before .before .before .before .before .before .before .before .before .before .before .loop .bytes) (c .before .before .before .before .before .before .before .before .before .before .before .before .loop .at) (c .before .before .before .before .before .before .before .before .before .before .before .before .loop .inv .1) (c .before .before .before .before .before .before .before .before .before .before .before .loop-test .taken) (c .before .before .before .before .before .before .before .before .before .wide .result) (c .before .before .before .before .before .before .before .before .before .wide .ensures) _ (c .before .before .before .clear-at .ensures))
+
+same-length : tie.Need-same-length Inv-loop μ-loop
+same-length c = c .before .loop .inv .1 .same
+
+returns : tie.Need-returns Inv-loop μ-loop
+returns c = (scanned (c .before .before .before .args .bytes .now) (c .before .loop .marks) (c .before .loop .at) (c .before .loop .n) (c .before .loop .inv .0) (omega (arith, c .loop-test .left, c .before .loop .inv .1 .same)), clearing.cleared (c .before .before .before .args .bytes .now) (c .before .loop .bytes) (c .before .loop .at) (c .before .loop .inv .1) (c .loop-test .left))
+
+pub wipe-spec : {M : Type 1} → statement M
+wipe-spec =
+    tie.close
+    (tie.spec
+    Inv-loop
+    μ-loop
+    loop-holds
+    slice-read-wide
+    wide-requires
+    key-at-requires
+    mark-requires
+    add-n
+    clear-at-requires
+    array-read-wide
+    wide-requires-2
+    add-at
+    add-at-2
+    loop-less
+    loop-again
+    same-length
+    returns)
