@@ -14,7 +14,7 @@ mod verdict;
 pub use keys::{blank, count, least_free, undo_listing, waiting};
 pub use listing::listing;
 pub use moves::{forward, undo};
-pub use record::{read, walk, Shown, DEPTH_LIMIT, NODE_LIMIT};
+pub use record::{node, read, walk, Shown, DEPTH_LIMIT, NODE_LIMIT};
 pub use search::{first, for_each_step};
 pub use verdict::verdict;
 
