@@ -51,8 +51,8 @@
  * Record and row belong to the caller. They are lent for the time of a call; no pointer is kept and nothing is
  * allocated. A pointer must be good for the length given with it; with length 0 any pointer will do, null too.
  * Record and row must not overlap.
- * Stack, on x86-64, at the deepest record: up to 48 KiB below read, forward, undo, count, least_free, waiting and blank;
- * up to 136 KiB below first, undo_listing and verdict.
+ * Stack, on x86-64, at the deepest record: up to 48 KiB below read, node, forward, undo, count, least_free, waiting and
+ * blank; up to 136 KiB below first, undo_listing and verdict.
  * The library has no state of its own: any number of threads may call it at once, each on a record (and row) that
  * no other thread uses during the call.
  */
@@ -97,8 +97,25 @@ extern "C" {
 #define CONCOURSEL_P(answer) ((uint16_t)((uint64_t)(answer) >> 16))
 #define CONCOURSEL_Q(answer) ((uint16_t)(answer))
 
+/*
+ * The answer of node has the same fields and the kind above them: kind * 2^56. Its label is the action of a prefix or
+ * the name of a restriction, its p the key of a prefix, its q the depth. What a kind has not is 0.
+ */
+#define CONCOURSEL_KIND(answer) ((uint8_t)((uint64_t)(answer) >> 56))
+#define CONCOURSEL_ACTION(answer) CONCOURSEL_LABEL(answer)
+#define CONCOURSEL_NAME(answer) CONCOURSEL_LABEL(answer)
+#define CONCOURSEL_KEY(answer) CONCOURSEL_P(answer)
+#define CONCOURSEL_DEPTH(answer) CONCOURSEL_Q(answer)
+
 /* Reads the record. Answers its number of nodes. Refusals: 1, 2. */
 uint64_t concoursel_read(const uint8_t *record, size_t len);
+
+/*
+ * Shows node n of the record. There: CONCOURSEL_FOUND is 1, with the node's kind, the bytes of its body, and its depth.
+ * Past the last node: all fields are 0, which is no refusal. To go through all nodes, begin at 0 and go on until none
+ * is found. Each call reads the record and goes from the first node to n. Refusals: 1, 2.
+ */
+uint64_t concoursel_node(const uint8_t *record, size_t len, uint16_t n);
 
 /*
  * Makes a forward step with a key that stands nowhere yet: at the place p alone if q is 0, else at p and q together,

@@ -17,7 +17,7 @@
 
 #include "concoursel.h"
 
-enum { READ, FORWARD, UNDO, FIRST, COUNT, LEAST_FREE, UNDO_LISTING, WAITING, BLANK, VERDICT };
+enum { READ, FORWARD, UNDO, FIRST, COUNT, LEAST_FREE, UNDO_LISTING, WAITING, BLANK, VERDICT, NODE };
 
 struct request {
     uint8_t op;
@@ -63,6 +63,9 @@ static int call(const struct request *r, uint8_t *record, uint16_t *row, uint64_
 #endif
 #ifdef HAS_verdict
     case VERDICT: *answer = concoursel_verdict(record, r->len); return 1;
+#endif
+#ifdef HAS_node
+    case NODE: *answer = concoursel_node(record, r->len, r->p); return 1;
 #endif
     default: return 0;
     }

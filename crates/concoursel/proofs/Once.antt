@@ -3,12 +3,12 @@ use mathlib.Core.Path.{_≡_}
 use mathlib.Core.List.{List}
 use Prim.Native.Nat.{ℕ}
 use Rattle.operations.specs.Change.{ForwardStep, UndoStep, BlankForm}
-use Rattle.operations.specs.Ask.{ReadRecord, KeyCount, FreeKey, FirstStep, UndoListing, WaitingList, Soundness}
+use Rattle.operations.specs.Ask.{ReadRecord, ShownNode, KeyCount, FreeKey, FirstStep, UndoListing, WaitingList, Soundness}
 use Rattle.operations.proofs.ChangeOnce.{forward-once, undo-step-once, blank-once}
-use Rattle.operations.proofs.NumberOnce.{read-once, count-once, free-once, sound-once}
+use Rattle.operations.proofs.NumberOnce.{read-once, node-once, count-once, free-once, sound-once}
 use Rattle.operations.proofs.RowOnce.{listing-once, waiting-once}
 use Rattle.operations.proofs.FirstOnce.{first-once}
-use Rattle.concoursel.specs.Packed.{PackedStep, PackedNumber, PackedLent, PackedFirst, PackedFirst.packed}
+use Rattle.concoursel.specs.Packed.{PackedStep, PackedNumber, PackedLent, PackedFirst, PackedNode, PackedFirst.packed, PackedNode.packed}
 use Rattle.concoursel.proofs.Packs.{packed-step-once, packed-number-once, packed-lent-once}
 
 module _ (s : List ℕ) where
@@ -20,6 +20,9 @@ module _ (s : List ℕ) where
 
   pub read-entry-once : {r r′ : ℕ} → PackedNumber (ReadRecord s) r → PackedNumber (ReadRecord s) r′ → r ≡ r′
   read-entry-once = packed-number-once (λ c c′ n n′ f g. read-once f g)
+
+  pub node-entry-once : {n r r′ : ℕ} → PackedNode (ShownNode s n) r → PackedNode (ShownNode s n) r′ → r ≡ r′
+  node-entry-once (packed f) (packed g) = let e = node-once f g in rw (e .0, e .1)
 
   pub count-entry-once : {r r′ : ℕ} → PackedNumber (KeyCount s) r → PackedNumber (KeyCount s) r′ → r ≡ r′
   count-entry-once = packed-number-once (λ c c′ n n′ f g. count-once f g)

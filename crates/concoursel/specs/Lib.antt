@@ -1,2 +1,3 @@
--- How the answers of the entries for a host are packed into one number.
+-- How the answers of the entries for a host are packed into one number (Packed), and which nodes are packed (Known).
 pub mod Packed
+pub mod Known

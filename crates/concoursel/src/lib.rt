@@ -1,4 +1,5 @@
 // The entries for a host: every operation on numbers, byte slices and rows. Each calls the proved operation and packs its answer into one number.
+use cursor::Shown;
 use keys::Number;
 use reader::Count;
 use reader::Key;
@@ -7,15 +8,18 @@ use rows::Row;
 use search::First;
 use steps::Moved;
 use undos::listing::Rows;
+ghost use lib.ListN.{getD, take, drop};
 ghost use mathlib.Core.Path.{_≡_};
+ghost use Rattle.cursor.specs.At.{showing};
 ghost use Rattle.keys.specs.Number as number;
-ghost use Rattle.operations.specs.Ask.{ReadRecord, KeyCount, FreeKey, FirstStep, UndoListing, WaitingList, Soundness};
+ghost use Rattle.operations.specs.Ask.{ReadRecord, ShownNode, KeyCount, FreeKey, FirstStep, UndoListing, WaitingList, Soundness};
 ghost use Rattle.operations.specs.Change.{ForwardStep, UndoStep, BlankForm};
 ghost use Rattle.rows.specs.Row as row;
 ghost use Rattle.search.specs.First as first;
 ghost use Rattle.steps.specs.Plan as plan;
 ghost use Rattle.undos.specs.Rows as allowed;
-ghost use Rattle.concoursel.specs.Packed.{step-answer, answer, PackedStep, PackedNumber, PackedLent, PackedFirst};
+ghost use Rattle.concoursel.specs.Packed.{step-answer, answer, node-answer, PackedStep, PackedNumber, PackedLent, PackedFirst, PackedNode};
+ghost use Rattle.concoursel.specs.Known.{Known};
 
 // What a refusal number is multiplied by: 2^8 in the answer of a step, 2^48 in the other answers.
 const STEP_REFUSAL: u32 = 256;
@@ -28,6 +32,11 @@ const MARK: u64 = 1099511627776;
 const LABEL: u64 = 4294967296;
 
 const P: u64 = 65536;
+
+// In the answer of the walk also the kind, by 2^56; the key stands in the place of p, its high byte 2^8 higher.
+const KIND: u64 = 72057594037927936;
+
+const KEY_HIGH: u64 = 16777216;
 
 // The answer of a step as one number.
 fn packed_step(given: Moved) -> u32
@@ -80,6 +89,43 @@ fn packed_first(given: First) -> u64
     }
 }
 
+// Byte i of the body that begins at `from` and is `long` bytes long; 0 where it has no such byte.
+fn body_byte(record: &[u8], from: usize, long: usize, i: usize) -> u8
+    ensures { λ r. ⌜ r ≡ getD (take long (drop from (now («record» .entry)))) i 0 ⌝ }
+{
+    if long <= i {
+        return 0;
+    }
+    if record.len() <= i {
+        return 0;
+    }
+    if record.len() - i <= from {
+        return 0;
+    }
+    record[from + i]
+}
+
+// What is shown of a node of the record, packed.
+fn packed_node(record: &[u8], given: Shown) -> u64
+    requires { ⌜ Known given ⌝ }
+    ensures { λ r. ⌜ r ≡ node-answer 0 (showing (now («record» .entry)) given) ⌝ }
+{
+    match given {
+        Shown::Nothing => 0,
+        Shown::Node {
+            kind,
+            body,
+            length,
+            depth,
+        } => {
+            let first = body_byte(record, body, length, 0) as u64;
+            let high = body_byte(record, body, length, 1) as u64;
+            let low = body_byte(record, body, length, 2) as u64;
+            kind as u64 * KIND + MARK + first * LABEL + high * KEY_HIGH + low * P + depth as u64
+        }
+    }
+}
+
 // Reading: the number of nodes.
 #[no_mangle]
 pub extern "C" fn concoursel_read(record: &[u8]) -> u64
@@ -88,6 +134,17 @@ pub extern "C" fn concoursel_read(record: &[u8]) -> u64
     match reader::read(record) {
         Count::Refused(c) => c as u64 * REFUSAL,
         Count::Nodes(n) => n as u64,
+    }
+}
+
+// Node n of the walk: kind, body and depth.
+#[no_mangle]
+pub extern "C" fn concoursel_node(record: &[u8], n: u16) -> u64
+    ensures { λ r. ⌜ PackedNode (ShownNode (now («record» .entry)) n) r ⌝ }
+{
+    match reader::read(record) {
+        Count::Refused(c) => c as u64 * REFUSAL,
+        Count::Nodes(_) => packed_node(record, walker::node(record, Node(n))),
     }
 }
 

@@ -1,12 +1,14 @@
--- Reading, key count, least free key, soundness: for every input exactly one answer fits the promise, and it can be computed.
+-- Reading, the walk, key count, least free key, soundness: for every input exactly one answer fits the promise, and it can be computed.
 use mathlib.Core.Path.{_≡_, refl, ap, sym, _∙_}
-use mathlib.Core.List.{List}
+use mathlib.Core.List.{List, []}
 use Prim.Native.Nat.{ℕ}
+use lib.ListN.{take, drop}
 use Rattle.ccsk.specs.Numbers.{distinct}
 use Rattle.ccsk.specs.Term.{Key, keys, size}
 use Rattle.sound.proofs.Decide.{verdict, verdict-right, verdict-once}
 use Rattle.format.specs.Read.{decode, Opened, Opened.refused, opened}
-use Rattle.operations.specs.Ask.{ReadRecord, KeyCount, FreeKey, Soundness}
+use Rattle.format.specs.Preorder.{Shown, preorder}
+use Rattle.operations.specs.Ask.{ReadRecord, ShownNode, KeyCount, FreeKey, Soundness}
 use Rattle.operations.proofs.Choose.{onRead}
 use Rattle.operations.proofs.Lists.{least-free-key, least-free-once}
 
@@ -42,6 +44,26 @@ read-some s = read (decode s) refl
 
 pub read-once : {s : List ℕ} {r r′ n n′ : ℕ} → ReadRecord s r n → ReadRecord s r′ n′ → SameNumber (r, n) (r′, n′)
 read-once d e = same-number (read-only d) (read-only e)
+
+-- a node of the walk: a refusal number, and the nodes that are shown
+unfoldable pub node-answer : List ℕ → ℕ → ℕ × List Shown
+node-answer s n = onRead (decode s) (λ c. (c, [])) (λ t. (0, take 1 (drop n (preorder 1 t))))
+
+pub node-only : {s : List ℕ} {n r : ℕ} {l : List Shown} → ShownNode s n r l → node-answer s n ≡ (r, l)
+unfolding node-answer
+node-only (ShownNode.unreadable e) = rw e
+node-only (ShownNode.done e) = rw e
+
+pub node-some : (s : List ℕ) (n : ℕ) → ShownNode s n (node-answer s n .0) (node-answer s n .1)
+unfolding node-answer
+node-some s n = read (decode s) refl
+  where
+    read : (o : Opened) → decode s ≡ o → let x : ℕ × List Shown = onRead o (λ c. (c, [])) (λ t. (0, take 1 (drop n (preorder 1 t)))) in ShownNode s n (x .0) (x .1)
+    read (refused c) e = ShownNode.unreadable e
+    read (opened t) e = ShownNode.done e
+
+pub node-once : {s : List ℕ} {n r r′ : ℕ} {l l′ : List Shown} → ShownNode s n r l → ShownNode s n r′ l′ → (r ≡ r′) × (l ≡ l′)
+node-once d e = let g = sym (node-only d) ∙ node-only e in (ap (λ v. v .0) g, ap (λ v. v .1) g)
 
 -- number of distinct keys
 unfoldable pub count-answer : List ℕ → Number

@@ -1,19 +1,25 @@
 -- The operations that only answer. After the input stand the refusal number, the other fields, and where a row is lent the row afterwards.
 use mathlib.Core.Path.{_≡_}
-use mathlib.Core.List.{List, _++_}
+use mathlib.Core.List.{List, [], _++_}
 use Prim.Native.Nat.{ℕ, _<_, _≤_}
-use lib.ListN.{length, drop}
+use lib.ListN.{length, take, drop}
 use Rattle.ccsk.specs.Numbers.{distinct, LeastFree, Lists}
 use Rattle.ccsk.specs.Term.{Term, Label, Key, Node, Has, Fsh, keys, size}
 use Rattle.ccsk.specs.Step.{Undoable}
 use Rattle.sound.specs.Sound.{Verdict}
 use Rattle.format.specs.Read.{Reads, Refuses}
+use Rattle.format.specs.Preorder.{Shown, preorder}
 use Rattle.operations.specs.Order.{FirstFrom, NoFreeStep, WaitsFor}
 
 -- Reading: the number of nodes.
 pub data ReadRecord (s : List ℕ) : ℕ → ℕ → Type 0 where
   unreadable : {c : ℕ} → Refuses s c → ReadRecord s c 0
   done : {t : Term} → Reads s t → ReadRecord s 0 (size t)
+
+-- Node n of the walk: refusal, then what is shown, the one node or past the last none (01, The record).
+pub data ShownNode (s : List ℕ) (n : Node) : ℕ → List Shown → Type 0 where
+  unreadable : {c : ℕ} → Refuses s c → ShownNode s n c []
+  done : {t : Term} → Reads s t → ShownNode s n 0 (take 1 (drop n (preorder 1 t)))
 
 -- Number of distinct keys, of any readable record (01, Operations).
 pub data KeyCount (s : List ℕ) : ℕ → ℕ → Type 0 where

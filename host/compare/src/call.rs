@@ -39,11 +39,14 @@ pub enum Call {
     },
     Blank,
     Verdict,
+    Node {
+        n: u16,
+    },
 }
 
 /// The operations by their numbers.
-const NAMES: [&str; 10] =
-    ["read", "forward", "undo", "first", "count", "least_free", "undo_listing", "waiting", "blank", "verdict"];
+const NAMES: [&str; 11] =
+    ["read", "forward", "undo", "first", "count", "least_free", "undo_listing", "waiting", "blank", "verdict", "node"];
 
 impl Call {
     pub fn name(&self) -> &'static str {
@@ -63,15 +66,17 @@ impl Call {
             Call::Waiting { .. } => 7,
             Call::Blank => 8,
             Call::Verdict => 9,
+            Call::Node { .. } => 10,
         }
     }
 
-    /// p, q and key; 0 for those that the operation has not.
+    /// p, q and key; 0 for those that the operation has not. A node's number goes in the place of p.
     pub fn numbers(&self) -> (u16, u16, u16) {
         match *self {
             Call::Forward { p, q, key } => (p, q, key),
             Call::Undo { key } | Call::Waiting { key, .. } => (0, 0, key),
             Call::First { p, q } => (p, q, 0),
+            Call::Node { n } => (n, 0, 0),
             _ => (0, 0, 0),
         }
     }
@@ -93,6 +98,7 @@ impl fmt::Display for Call {
             Call::Forward { p, q, key } => write!(to, " p={p} q={q} key={key}"),
             Call::Undo { key } => write!(to, " key={key}"),
             Call::First { p, q } => write!(to, " p={p} q={q}"),
+            Call::Node { n } => write!(to, " n={n}"),
             Call::UndoListing { row, fill } => write!(to, " row={row} fill={fill}"),
             Call::Waiting { key, row, fill } => write!(to, " key={key} row={row} fill={fill}"),
             _ => Ok(()),
@@ -103,6 +109,12 @@ impl fmt::Display for Call {
 /// The 64-bit answer: refusal, mark, label, p, q. A single number stands in the low 16 bits.
 pub fn pack(refusal: u8, mark: u8, label: u8, p: u16, q: u16) -> u64 {
     u64::from(refusal) << 48 | u64::from(mark) << 40 | u64::from(label) << 32 | u64::from(p) << 16 | u64::from(q)
+}
+
+/// A node that is shown: the kind above the other fields, action or name, key and depth in them.
+fn pack_node(node: reference::Shown) -> u64 {
+    let first = node.body.first().copied().unwrap_or(0);
+    u64::from(node.kind) << 56 | pack(0, 1, first, node.key(), node.depth as u16)
 }
 
 fn pack_number(answer: Result<u16, u8>) -> u64 {
@@ -146,6 +158,10 @@ fn reference_answer(call: &Call, record: &mut [u8], row: &mut [u16]) -> u64 {
         Call::Waiting { key, .. } => pack_number(reference::waiting(record, key, row).map(|count| count as u16)),
         Call::Blank => pack_number(reference::blank(record)),
         Call::Verdict => pack_number(reference::verdict(record).map(u16::from)),
+        Call::Node { n } => match reference::node(record, n) {
+            Ok(node) => node.map_or(0, pack_node),
+            Err(refusal) => pack(refusal, 0, 0, 0, 0),
+        },
     }
 }
 

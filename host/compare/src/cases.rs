@@ -4,7 +4,7 @@ use crate::call::{Call, Side};
 use crate::records::{Random, EDGE_KEYS};
 
 /// One call of each operation.
-pub const ONE_OF_EACH: [Call; 10] = [
+pub const ONE_OF_EACH: [Call; 11] = [
     Call::Read,
     Call::Forward { p: 0, q: 0, key: 1 },
     Call::Undo { key: 1 },
@@ -15,6 +15,7 @@ pub const ONE_OF_EACH: [Call; 10] = [
     Call::Waiting { key: 1, row: 4096, fill: 0 },
     Call::Blank,
     Call::Verdict,
+    Call::Node { n: 0 },
 ];
 
 /// The distinct keys of a record in order of appearance; none of a record that is refused.
@@ -45,6 +46,9 @@ pub fn calls(random: &mut Random, record: &[u8]) -> Vec<Call> {
         calls.push(Call::Forward { p, q: if random.percent(30) { 0 } else { q }, key: any_key(random) });
     }
     calls.push(Call::First { p: 65535, q: 65535 });
+    // Two nodes anywhere, the last one, and past it.
+    let last = nodes as u16 - 1;
+    calls.extend([any_place(random), any_place(random), last, last + 1].map(|n| Call::Node { n }));
     steps(random, record, &mut calls, any_key);
     for key in [0, any_key(random), any_key(random), any_key(random)] {
         calls.push(Call::Undo { key });

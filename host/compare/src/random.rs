@@ -42,8 +42,15 @@ struct Tally {
     skipped: u64,
     refused: [u64; 3],
     verdicts: [u64; 8],
+    /// pairs[i][j]: readable records in which condition i + 1 is the lowest that fails and j + 1 fails too.
+    pairs: [[u64; 7]; 7],
     /// Readable records of the largest size or depth.
     limits: u64,
+}
+
+/// Two different conditions, counted from 0. All 21 pairs can fail at once: side by side, each on keys of its own.
+fn pairs() -> impl Iterator<Item = (usize, usize)> {
+    (0..7).flat_map(|i| (i + 1..7).map(move |j| (i, j)))
 }
 
 impl Tally {
@@ -55,12 +62,19 @@ impl Tally {
             Ok(verdict) => self.verdicts[verdict as usize] += 1,
             Err(refusal) => self.refused[refusal as usize] += 1,
         }
+        let failing = reference::failing(record).unwrap_or_default();
+        for (i, j) in pairs() {
+            let lowest = failing[i] && !failing[..i].contains(&true);
+            self.pairs[i][j] += u64::from(lowest && failing[j]);
+        }
     }
 }
 
 impl std::fmt::Display for Tally {
     fn fmt(&self, to: &mut std::fmt::Formatter) -> std::fmt::Result {
         let (verdicts, refused, limits) = (self.verdicts, &self.refused[1..], self.limits);
-        write!(to, "records by verdict 0 to 7 {verdicts:?}, refused 1 and 2 {refused:?}, at a limit {limits}")
+        let (fewest, i, j) = pairs().map(|(i, j)| (self.pairs[i][j], i + 1, j + 1)).min().expect("there are pairs");
+        write!(to, "records by verdict 0 to 7 {verdicts:?}, refused 1 and 2 {refused:?}, at a limit {limits}, ")?;
+        write!(to, "each two conditions fail at once {fewest} times or more with none below, {i} and {j} the fewest")
     }
 }

@@ -232,12 +232,40 @@ fn crossed(random: &mut Random) -> Vec<u8> {
     bytes
 }
 
+/// For each condition of soundness a record that fails it and no other (01, Examples on both sides). The keys are 1 and 2.
+const FAULTS: [&[u8]; 7] = [
+    &[1, 1, 0, 0, 1, 2, 0, 1, 0],
+    &[2, 1, 1, 0, 1, 0, 1, 2, 0, 2, 0],
+    &[3, 1, 1, 0, 1, 0, 3, 1, 1, 0, 1, 0, 1, 129, 0, 1, 0],
+    &[3, 1, 1, 0, 1, 0, 1, 1, 0, 1, 0],
+    &[1, 1, 0, 1, 1, 129, 0, 1, 0],
+    &[4, 1, 1, 1, 0, 1, 0],
+    &[3, 1, 1, 0, 1, 1, 2, 0, 2, 0, 1, 130, 0, 2, 1, 129, 0, 1, 0],
+];
+
+/// Two or three faults side by side, each with keys of its own: any two conditions fail at once.
+fn faults(random: &mut Random) -> Vec<u8> {
+    let count = 2 + random.below(2);
+    let mut bytes = vec![3; count - 1];
+    for part in 0..count as u8 {
+        let mut fault = random.pick(&FAULTS).to_vec();
+        for at in key_offsets(&fault) {
+            if fault[at + 1] != 0 {
+                fault[at + 1] += 2 * part;
+            }
+        }
+        bytes.extend(fault);
+    }
+    bytes
+}
+
 /// A record of any of these sorts.
 pub fn any(random: &mut Random) -> Vec<u8> {
     let mut bytes = match random.below(100) {
         0..=24 => scattered(random),
         25..=44 => crossed(random),
-        45..=96 => sound(random),
+        45..=91 => sound(random),
+        92..=96 => faults(random),
         _ => deep(random),
     };
     match random.below(10) {

@@ -19,8 +19,8 @@ fn timed_calls(record: &[u8]) -> Vec<(&'static str, Call)> {
     let mut row = [0; 4096];
     let undos = reference::undo_listing(record, &mut row).expect("the row is long enough");
     let key = reference::least_free(record).expect("the shapes are readable");
-    let prefixes = reference::walk(record).expect("the shapes are readable");
-    let any = (0..).zip(&prefixes).find(|(_, node)| node.kind == 1).map_or(0, |(number, _)| number);
+    let nodes = reference::walk(record).expect("the shapes are readable");
+    let any = (0..).zip(&nodes).find(|(_, node)| node.kind == 1).map_or(0, |(number, _)| number);
     let (p, q) = steps.last().copied().unwrap_or((any, 0));
     let past = if steps.is_empty() { Call::First { p: 0, q: 0 } } else { Call::First { p, q: q + 1 } };
     vec![
@@ -35,6 +35,7 @@ fn timed_calls(record: &[u8]) -> Vec<(&'static str, Call)> {
         ("waiting", Call::Waiting { key: keys.first().copied().unwrap_or(1), row: 4096, fill: 0 }),
         ("blank", Call::Blank),
         ("verdict", Call::Verdict),
+        ("node, last", Call::Node { n: nodes.len() as u16 - 1 }),
     ]
 }
 

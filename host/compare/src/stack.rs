@@ -43,8 +43,9 @@ fn calls(record: &[u8]) -> Vec<Call> {
     for &key in cases::keys(record).first().into_iter().chain(cases::keys(record).last()) {
         calls.extend([Call::Undo { key }, Call::Waiting { key, row: 4096, fill: 0 }]);
     }
-    let prefixes = reference::walk(record).unwrap_or_default();
-    if let Some((p, _)) = (0..).zip(&prefixes).filter(|(_, node)| node.kind == 1).last() {
+    let nodes = reference::walk(record).unwrap_or_default();
+    calls.push(Call::Node { n: nodes.len() as u16 });
+    if let Some((p, _)) = (0..).zip(&nodes).filter(|(_, node)| node.kind == 1).last() {
         calls.push(Call::Forward { p, q: 0, key });
     }
     calls

@@ -37,7 +37,7 @@ fn check_line(side: Side, line: &str) -> Option<Result<(), String>> {
     let fields: HashMap<&str, &str> = fields.split_whitespace().map(|field| field.split_once('=').unwrap()).collect();
     let record = unhex(words[1]);
     let (found, right) = match words[0] {
-        "walk" => (walk(side, &record)?, format!("refusal={} nodes={}", fields["refusal"], fields["nodes"])),
+        "walk" => (shown(&walk(side, &record)?), shown(&parse_walk(&record, &fields))),
         "listing" => (listing(side, &record)?, String::from_utf8(unhex(fields["text"])).unwrap()),
         _ => {
             let call = parse_call(words[0], &words[2..]);
@@ -46,6 +46,10 @@ fn check_line(side: Side, line: &str) -> Option<Result<(), String>> {
         }
     };
     Some(if found == right { Ok(()) } else { Err(found) })
+}
+
+fn shown(outcomes: &[Outcome]) -> String {
+    outcomes.iter().map(Outcome::to_string).collect::<Vec<_>>().join("; ")
 }
 
 fn parse_call(operation: &str, words: &[&str]) -> Call {
@@ -86,21 +90,33 @@ fn parse_outcome(call: &Call, record: &[u8], fields: &HashMap<&str, &str>) -> Ou
     Outcome { answer, record: fields.get("record").map_or(record.to_vec(), |record| unhex(record)), row }
 }
 
-/// The walk in the form of the vector files. The library has no C entry for it.
-fn walk(side: Side, record: &[u8]) -> Option<String> {
-    if side == Side::Archive {
-        return None;
-    }
-    Some(match reference::walk(record) {
-        Err(refusal) => format!("refusal={refusal} nodes=-"),
-        Ok(nodes) => {
-            let show = |node: &reference::Shown| {
-                let body: String = node.body.iter().map(|byte| format!("{byte:02x}")).collect();
-                format!("{}:{body}:{}", node.kind, node.depth)
-            };
-            format!("refusal=0 nodes={}", nodes.iter().map(show).collect::<Vec<_>>().join(";"))
+/// Nodes 0, 1, 2 .. until none is shown, and one more past that.
+fn walk(side: Side, record: &[u8]) -> Option<Vec<Outcome>> {
+    let mut walked = Vec::new();
+    for n in 0.. {
+        walked.push(side.run(&Call::Node { n }, record)?);
+        if n > 0 && walked[n as usize - 1].answer >> 40 & 255 == 0 {
+            break;
         }
-    })
+    }
+    Some(walked)
+}
+
+/// What the nodes of a line are, packed, and twice the answer past the last.
+fn parse_walk(record: &[u8], fields: &HashMap<&str, &str>) -> Vec<Outcome> {
+    let end = pack(fields["refusal"].parse().expect("a number"), 0, 0, 0, 0);
+    let nodes = fields["nodes"].split(';').filter(|node| *node != "-").map(parse_node);
+    nodes.chain([end, end]).map(|answer| Outcome { answer, record: record.to_vec(), row: Vec::new() }).collect()
+}
+
+/// A node `kind:body:depth`, packed.
+fn parse_node(node: &str) -> u64 {
+    let mut parts = node.split(':');
+    let mut next = || parts.next().expect("kind, body and depth");
+    let (kind, body, depth) = (next().parse::<u64>(), unhex(next()), next().parse());
+    let byte = |i: usize| body.get(i).copied().unwrap_or(0);
+    let key = u16::from_be_bytes([byte(1), byte(2)]);
+    kind.expect("a number") << 56 | pack(0, 1, byte(0), key, depth.expect("a number"))
 }
 
 /// The text of the listing program; for the library it is put together from the answers of its entries.
@@ -129,7 +145,7 @@ fn listing(side: Side, record: &[u8]) -> Option<String> {
 }
 
 pub fn unhex(text: &str) -> Vec<u8> {
-    if text == "-" {
+    if text == "-" || text.is_empty() {
         return Vec::new();
     }
     let byte = |i: usize| u8::from_str_radix(&text[i..i + 2], 16).expect("two hexadecimal digits");

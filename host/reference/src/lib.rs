@@ -3,6 +3,7 @@
 //! It shares no code with the proved library and exists to be compared with it, answer by answer and in time.
 //! Every function works on a record's bytes; `Err` bears the refusal number, and then no lent byte has changed.
 
+mod conditions;
 mod keys;
 mod listing;
 mod moves;
@@ -11,10 +12,11 @@ mod search;
 mod tree;
 mod verdict;
 
+pub use conditions::failing;
 pub use keys::{blank, count, least_free, undo_listing, waiting};
 pub use listing::listing;
 pub use moves::{forward, undo};
-pub use record::{read, walk, Shown, DEPTH_LIMIT, NODE_LIMIT};
+pub use record::{node, read, walk, Shown, DEPTH_LIMIT, NODE_LIMIT};
 pub use search::{first, for_each_step};
 pub use verdict::verdict;
 

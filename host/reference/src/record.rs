@@ -88,3 +88,8 @@ pub fn walk(record: &[u8]) -> Result<Vec<Shown<'_>>, Refusal> {
     scan(record, |node| shown.push(node))?;
     Ok(shown)
 }
+
+/// Node n of the walk; None past the last.
+pub fn node(record: &[u8], n: u16) -> Result<Option<Shown<'_>>, Refusal> {
+    walk(record).map(|nodes| nodes.get(n as usize).copied())
+}

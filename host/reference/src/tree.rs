@@ -113,6 +113,15 @@ impl Tree {
         above
     }
 
+    /// The key of the nearest done prefix above the node.
+    pub fn key_above(&self, number: u16) -> Option<u16> {
+        let mut above = self.node(number).parent;
+        while above != NONE && self.node(above).key == 0 {
+            above = self.node(above).parent;
+        }
+        (above != NONE).then(|| self.node(above).key)
+    }
+
     /// The deepest node that holds both p and q, p before q.
     pub fn meet(&self, p: u16, q: u16) -> u16 {
         let mut above = q;

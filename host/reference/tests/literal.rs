@@ -113,8 +113,8 @@ impl Term {
         }
     }
 
-    /// The seven parts of soundness, each for itself.
-    fn verdict(&self) -> u8 {
+    /// Which of the seven parts of soundness fail, each for itself.
+    fn failing(&self) -> [bool; 7] {
         let (parts, marks) = (self.parts(), self.marks());
         let twice: Vec<u16> = self.keys().into_iter().filter(|key| self.times(*key) == 2).collect();
         let actions = |key: u16| marks.iter().filter(move |mark| mark.1 == key).map(|mark| mark.0);
@@ -129,16 +129,15 @@ impl Term {
             }
             _ => true,
         };
-        let holds = [
-            !parts.iter().any(|part| matches!(part, Prefix(_, 0, rest) if !rest.keys().is_empty())),
-            !parts.iter().any(|part| matches!(part, Choice(l, r) if !l.keys().is_empty() && !r.keys().is_empty())),
-            self.keys().iter().all(|key| self.times(*key) <= 2),
-            twice.iter().all(complementary),
-            twice.iter().all(|key| parts.iter().any(|part| apart(part, *key))),
-            parts.iter().all(shut),
-            !self.keys().iter().any(|key| self.reaches(*key).contains(key)),
-        ];
-        holds.iter().position(|holds| !holds).map_or(0, |number| number as u8 + 1)
+        [
+            parts.iter().any(|part| matches!(part, Prefix(_, 0, rest) if !rest.keys().is_empty())),
+            parts.iter().any(|part| matches!(part, Choice(l, r) if !l.keys().is_empty() && !r.keys().is_empty())),
+            !self.keys().iter().all(|key| self.times(*key) <= 2),
+            !twice.iter().all(complementary),
+            !twice.iter().all(|key| parts.iter().any(|part| apart(part, *key))),
+            !parts.iter().all(shut),
+            self.keys().iter().any(|key| self.reaches(*key).contains(key)),
+        ]
     }
 
     /// The keys other than m below a prefix that holds m.
@@ -223,7 +222,10 @@ fn agrees_with_the_rules_as_written() {
         let term = random.term(size, keys);
         let bytes = term.bytes();
         let nodes = term.parts().len() as u16;
-        assert_eq!(reference::verdict(&bytes), Ok(term.verdict()), "{bytes:02x?}");
+        let failing = term.failing();
+        let lowest = failing.iter().position(|fails| *fails).map_or(0, |number| number as u8 + 1);
+        assert_eq!(reference::verdict(&bytes), Ok(lowest), "{bytes:02x?}");
+        assert_eq!(reference::failing(&bytes), Ok(failing), "{bytes:02x?}");
         check_forward(&term, &bytes, nodes);
         let mut undoable = Vec::new();
         for key in 1..7 {
