@@ -1,19 +1,20 @@
 -- A whole record: its reading gives the term that stands at its start, and the pass over that term fills the rows.
-use mathlib.Core.Path.{_≡_, refl, subst, ap, _∙_}
-use mathlib.Core.Logic.{_⊎_, inl, inr, ⊎-elim}
-use mathlib.Core.List.{List, [], _∷_}
+use mathlib.Core.Path.{_≡_, subst, ap, _∙_}
+use mathlib.Core.Logic.{⊎-elim}
+use mathlib.Core.List.{List}
 use mathlib.Core.Bool.{true}
-use Prim.Native.Nat.{ℕ, suc, _+_, _<_, _≤_}
+use Prim.Native.Nat.{ℕ, _+_, _≤_}
 use native.Mathlib.Omega.{arith}
-use lib.ListN.{length, getD, drop, length-replicate, List·getD-append}
+use lib.ListN.{length, drop, length-replicate, List·getD-append}
 use lib.Seq.{sets, sets-eq}
-use Rattle.ccsk.specs.Term.{Term, nil, pre, cho, par, res, size}
+use Rattle.ccsk.specs.Term.{Term, size}
 use Rattle.format.specs.Limits.{node-limit}
 use Rattle.format.specs.Read.{Reads, Refuses}
 use Rattle.format.specs.Encode.{encode, Fits, Bytes}
 use Rattle.format.proofs.Unique.{encode-decode}
 use Rattle.format.proofs.Refusals.{decode-refusals}
-use Rattle.operations.specs.Ask.{ReadRecord, unreadable, done}
+use Rattle.operations.specs.Ask.{ReadRecord}
+use Rattle.reader.proofs.Whole.{record-cases, record-refused}
 use Rattle.reader.specs.Count.{refusal, nodes}
 use Rattle.reader.specs.declared.Count.{Count}
 use Rattle.reader.specs.declared.Count.the-variants.{Refused, Nodes}
@@ -24,23 +25,6 @@ use Rattle.index.specs.Chart.{Room, Stands, Charts}
 use Rattle.index.specs.Whole.{Rows}
 use Rattle.index.proofs.Charts.{room-charted}
 
-pub bytes-of : (s : List ℕ) → ((i : ℕ) → getD s i 0 < 256) → Bytes s
-bytes-of [] f = tt
-bytes-of (b ∷ s) f = (f 0, bytes-of s (λ i. f (suc i)))
-
--- the two ways of a reading
-ways : {s : List ℕ} {c n : ℕ} → ReadRecord s c n → (Refuses s c × (n ≡ 0)) ⊎ ((t : Term) × Reads s t × (c ≡ 0) × (n ≡ size t))
-ways (unreadable h) = inl (h, refl)
-ways (done {t} h) = inr (t, h, refl, refl)
-
-no-nodes : (t : Term) → _≡_ {A = ℕ} 0 (size t) → ⊥
-unfolding size
-no-nodes nil e = omega arith
-no-nodes (pre a k t) e = omega arith
-no-nodes (cho t u) e = omega arith
-no-nodes (par t u) e = omega arith
-no-nodes (res a t) e = omega arith
-
 -- what is written from the start stands there
 written : (l x : List ℕ) (k : ℕ) → length x ≡ k → k ≤ node-limit → length l ≡ node-limit → Holds (sets l 0 x) 0 x
 written l x k e h g = record {
@@ -49,13 +33,13 @@ written l x k e h g = record {
 
 module _ (s : List ℕ) (r : Count) (R : ReadRecord s (refusal r) (nodes r)) where
   pub was-refused : (c : ℕ) → r ≡ Refused c → Refuses s c
-  was-refused c e = ⊎-elim (λ w. w .0) (λ w. absurd (no-nodes (w .0) (w .3))) (ways (subst (λ (x : Count). ReadRecord s (refusal x) (nodes x)) e R))
+  was-refused c e = record-refused s c (subst (λ (x : Count). ReadRecord s (refusal x) (nodes x)) e R)
 
   -- the term that was read
   pub was-read : Bytes s → (n : ℕ) → r ≡ Nodes n → (t : Term) × Reads s t × Fits t × (n ≡ size t) × Stands s 0 0 t
   was-read B n e = ⊎-elim (λ w. absurd (⊎-elim (λ z. omega arith) (λ z. omega arith) (decode-refusals s 0 (w .0))))
       (λ w. let d = encode-decode s (w .0) B (w .1) in (w .0, w .1, d .1, w .3, stands (w .0) (d .0) (d .1)))
-      (ways (subst (λ (x : Count). ReadRecord s (refusal x) (nodes x)) e R))
+      (record-cases s 0 n (subst (λ (x : Count). ReadRecord s (refusal x) (nodes x)) e R))
     where
       stands : (t : Term) → encode t ≡ s → Fits t → Stands s 0 0 t
       stands t q f = record {

@@ -15,25 +15,10 @@ use reader::Count;
 use reader::NO_ACTION;
 use reader::NODES;
 use reader::PREFIX;
+use reader::body_length;
+use reader::child_count;
 use reader::read;
 use reader::wide;
-
-// The reader's tables by kind, as numbers to count with.
-const BODY: [usize; 5] = [
-    reader::BODY[0] as usize,
-    reader::BODY[1] as usize,
-    reader::BODY[2] as usize,
-    reader::BODY[3] as usize,
-    reader::BODY[4] as usize,
-];
-
-const CHILDREN: [usize; 5] = [
-    reader::CHILDREN[0] as usize,
-    reader::CHILDREN[1] as usize,
-    reader::CHILDREN[2] as usize,
-    reader::CHILDREN[3] as usize,
-    reader::CHILDREN[4] as usize,
-];
 
 // How many names there are, with 0, which is none.
 pub const NAMES: usize = 128;
@@ -180,9 +165,9 @@ fn chart(
     ensures { λ r. ⌜ Charts (now (s .entry)) at n live side (now (table .entry)) (now (actions .entry)) (now (scopes .entry)) (now (sides .entry)) (now (ends .entry)) (now (table .exit)) (now (actions .exit)) (now (scopes .exit)) (now (sides .exit)) (now (ends .exit)) r ⌝ }
 {
     let kind = wide(s[at]);
-    let next = at + 1 + BODY[kind];
+    let next = at + 1 + body_length(kind);
     let i = n + 1;
-    if CHILDREN[kind] == 0 {
+    if child_count(kind) == 0 {
         note(n, NO_ACTION, 0, side, i, actions, scopes, sides, ends);
         return ended(next, i, false);
     }
@@ -196,7 +181,7 @@ fn chart(
         note(n, own, scope, side, sub.end, actions, scopes, sides, ends);
         return ended(sub.next, sub.end, either(done, sub.holds));
     }
-    if CHILDREN[kind] == 1 {
+    if child_count(kind) == 1 {
         let a = wide(s[at + 1]);
         let outer = table[a];
         table[a] = i as u16;

@@ -5,6 +5,7 @@ use crate::out::put;
 use crate::out::put_number;
 use index::index;
 use keys::Number;
+use links::link;
 use reader::Count;
 use reader::Key;
 use reader::NO_ACTION;
@@ -18,6 +19,7 @@ ghost use mathlib.Core.Path.{_≡_};
 ghost use Prim.Native.Nat.{_≤_};
 ghost use lib.ListN.{length};
 ghost use Rattle.index.specs.Whole.{SomeRows};
+ghost use Rattle.links.specs.Links.{Linked};
 
 // No record has more forward steps than pairs of nodes.
 const MOST_STEPS: usize = NODES * NODES;
@@ -52,10 +54,13 @@ fn put_steps(
     scopes: &[u16; NODES],
     sides: &[u16; NODES],
     ends: &[u16; NODES],
+    twins: &[u16; NODES],
+    partners: &[u16; NODES],
     nodes: usize,
 ) -> usize
     requires { ⌜ (n ≤ 4096) × (length (now space) ≡ 4096) ⌝ }
     requires { ⌜ SomeRows nodes (now actions) (now scopes) (now sides) (now ends) ⌝ }
+    requires { ⌜ Linked nodes (now actions) (now scopes) (now twins) (now partners) ⌝ }
     ensures { λ r. ⌜ (r ≤ 4096) × (length (now (space .exit)) ≡ 4096) ⌝ }
 {
     let mut at = n;
@@ -64,7 +69,17 @@ fn put_steps(
     let mut left = MOST_STEPS;
     while 0 < left {
         left -= 1;
-        match next_step(actions, scopes, sides, ends, nodes, Node(p), Node(q)) {
+        match next_step(
+            actions,
+            scopes,
+            sides,
+            ends,
+            twins,
+            partners,
+            nodes,
+            Node(p),
+            Node(q),
+        ) {
             First::Refused(_) => {
                 return at;
             }
@@ -154,7 +169,7 @@ fn put_counts(space: &mut [u8], bytes: &[u8], nodes: usize) -> usize
     put(space, f, b"\n")
 }
 
-// All lines of a record, or its refusal. The record is indexed once, and each step is asked for where the last one stood.
+// All lines of a record, or its refusal. The record is indexed and linked once, and each step is asked for where the last one stood.
 pub fn list(bytes: &[u8]) {
     let mut room = [0u8; SPACE];
     let space: &mut [u8] = &mut room;
@@ -167,8 +182,21 @@ pub fn list(bytes: &[u8]) {
             list_refused(space, c);
         }
         Count::Nodes(n) => {
+            let mut twins = [0u16; NODES];
+            let mut partners = [0u16; NODES];
+            link(&actions, &scopes, n, &mut twins, &mut partners);
             let a = put_counts(space, bytes, n);
-            let b = put_steps(space, a, &actions, &scopes, &sides, &ends, n);
+            let b = put_steps(
+                space,
+                a,
+                &actions,
+                &scopes,
+                &sides,
+                &ends,
+                &twins,
+                &partners,
+                n,
+            );
             let c = put_allowed(space, b, bytes);
             flush(space, c);
         }

@@ -21,6 +21,7 @@ use Rattle.paths.specs.Rows.{no-action, channel, and, shown, Joined}
 use Rattle.paths.proofs.Channels.{on-channel, co-action}
 use Rattle.paths.proofs.Lines.{Laid}
 use Rattle.paths.proofs.Climb.{Inside, one-below, two-below, barred-here, barred-same, laid-end}
+use Rattle.paths.proofs.Names.{seen}
 
 -- a step at the places x with label l
 abbrev pub StepAt : Term → Key → Label → List Node → Type 0
@@ -85,7 +86,7 @@ module _ (A R S E : List ℕ) where
   live-or-dead false table side n t p L i f g = g refl L
 
   -- the scope is what the table has, or a restriction inside the term
-  abbrev ScopeOf : List ℕ → Node → Term → Node → Type 0
+  abbrev pub ScopeOf : List ℕ → Node → Term → Node → Type 0
   ScopeOf table n t p = (getD R p 0 ≡ getD table (channel (getD A p 0)) 0) ⊎ ((n < getD R p 0) × (getD R p 0 ≤ n + size t))
 
   within : (table : List ℕ) (n j : Node) (t u : Term) (p : Node) → n ≤ j → j + size t ≤ n + size u → ScopeOf table j t p → ScopeOf table n u p
@@ -101,16 +102,12 @@ module _ (A R S E : List ℕ) where
       pick (yes q) = let f : getD R p 0 ≡ n + 1 = e ∙ rw (q, getD-set-same table a (n + 1) 0 (omega arith)) in inr (omega arith, omega arith)
       pick (no q) = inl (e ∙ getD-set-other table a (channel (getD A p 0)) (n + 1) 0 q)
 
-  scope-of : (live : Bool) (table : List ℕ) (side n : Node) (t : Term) (p : Node) → Laid A R S E live table side n t → InRange t → length table ≡ 128 → Inside n t p → getD A p 0 ≢ no-action → ScopeOf table n t p
+  pub scope-of : (live : Bool) (table : List ℕ) (side n : Node) (t : Term) (p : Node) → Laid A R S E live table side n t → InRange t → length table ≡ 128 → Inside n t p → getD A p 0 ≢ no-action → ScopeOf table n t p
   unfolding size
   scope-of live table side n nil p L g z i f = let e : p ≡ n = omega arith in absurd (f (rw e (L .0)))
   scope-of live table side n (pre a k t) p L g z i f = one-below n (size t) p (i .0) (omega arith)
-      (λ e. inl (rw e (L .0 .1 ∙ ap (λ (v : ℕ). getD table (channel v) 0) (sym (seen (and live (and (eqb k 0) (not (holds t)))) (L .0 .0) (rw e at f))))))
+      (λ e. inl (rw e (L .0 .1 ∙ ap (λ (v : ℕ). getD table (channel v) 0) (sym (seen (and live (and (eqb k 0) (not (holds t)))) _ a (L .0 .0) (rw e at f))))))
       (λ j. within table n (n + 1) t (pre a k t) p (omega arith) (omega arith) (scope-of _ table side (n + 1) t p (L .1) (g .3) z j f))
-    where
-      seen : (b : Bool) → getD A n 0 ≡ shown b a → getD A n 0 ≢ no-action → getD A n 0 ≡ a
-      seen true e f = e
-      seen false e f = absurd (f e)
   scope-of live table side n (cho t u) p L g z i f = two-below n (size t) (size u) p (i .0) (omega arith)
       (λ e. absurd (f (rw e (L .0 .0))))
       (λ j. within table n (n + 1) t (cho t u) p (omega arith) (omega arith) (scope-of _ table (n + 1) (n + 1) t p (L .1) (g .0) z j f))

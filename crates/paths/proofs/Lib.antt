@@ -2,6 +2,7 @@
 pub mod Channels
 pub mod Lines
 pub mod Climb
+pub mod Names
 pub mod Derived
 pub mod Drawn
 pub mod Steps

@@ -1,6 +1,6 @@
 -- The rows of a term tell exactly the steps that the rules derive, for every key that stands nowhere in the term.
 use mathlib.Core.Path.{_≡_, sym, subst, _∙_}
-use mathlib.Core.Logic.{_↔_}
+use mathlib.Core.Logic.{_⊎_, inl, ⊎-elim, _≢_, _↔_}
 use mathlib.Core.List.{List, [], _∷_}
 use mathlib.Core.Bool.{true}
 use Prim.Native.Nat.{ℕ, suc, _+_, _-_, _<_, _≤_}
@@ -15,11 +15,12 @@ use Rattle.ccsk.proofs.Keys.{has-in}
 use Rattle.ccsk.proofs.Place.{Under, places-under}
 use Rattle.format.specs.Encode.{InRange}
 use Rattle.operations.specs.Order.{FreeStep}
-use Rattle.paths.specs.Rows.{channel, no-scopes, Indexed, Alone, Joined}
+use Rattle.paths.specs.Rows.{no-action, channel, no-scopes, Indexed, Alone, Joined}
 use Rattle.paths.proofs.Lines.{Laid, laid}
 use Rattle.paths.proofs.Climb.{barred-none, laid-low}
+use Rattle.paths.proofs.Names.{hidden, named}
 use Rattle.paths.proofs.Derived.{Told, one, two, step-told}
-use Rattle.paths.proofs.Drawn.{StepAt, alone-step, joined-step}
+use Rattle.paths.proofs.Drawn.{StepAt, scope-of, alone-step, joined-step}
 
 no-scope : (i : ℕ) → getD no-scopes i 0 ≡ 0
 no-scope i = pick (decLt i 128)
@@ -35,6 +36,20 @@ module _ (A R S E : List ℕ) (t : Term) (I : Indexed A R S E t) (g : InRange t)
   -- no first side begins after a node that stands in it
   pub low-sides : (p : Node) → p < size t → getD S p 0 ≤ p
   low-sides p h = laid-low S E A R p true no-scopes 0 0 t p lines (omega arith) (omega arith, omega arith)
+
+  -- the scope of a prefix that could step is a restriction of the term, or none
+  pub low-scopes : (p : Node) → p < size t → getD A p 0 ≢ no-action → getD R p 0 ≤ size t
+  low-scopes p h f = ⊎-elim (λ e. omega (arith, e, no-scope (channel (getD A p 0)))) (λ i. omega (arith, i .1)) (scope-of A R S E true no-scopes 0 0 t p lines g (length-replicate {A = ℕ} 128 0) (omega arith, omega arith) f)
+
+  name-told : (p : Node) → p < size t → getD A p 0 ≢ no-action → (getD A p 0 ≤ 255) × ((getD R p 0 ≡ 0) ⊎ (getD (hidden t) (getD R p 0 - 1) 0 ≡ channel (getD A p 0)))
+  name-told p h f = named A R S E (hidden t) true no-scopes 0 0 t p lines (record { at = λ i l. let e : 0 + i ≡ i = omega arith in rw e }) g (length-replicate {A = ℕ} 128 0, λ c. inl (no-scope c)) (omega arith, omega arith) f
+
+  pub low-actions : (p : Node) → p < size t → getD A p 0 ≢ no-action → getD A p 0 ≤ 255
+  low-actions p h f = name-told p h f .0
+
+  -- prefixes that could step under the same restriction have the same name, or its co-name
+  pub scope-names : (p q : Node) → p < size t → q < size t → getD A p 0 ≢ no-action → getD A q 0 ≢ no-action → getD R p 0 ≡ getD R q 0 → getD R p 0 ≢ 0 → channel (getD A p 0) ≡ channel (getD A q 0)
+  scope-names p q h k f f′ e z = ⊎-elim (λ w. absurd (z w)) (λ w. ⊎-elim (λ w′. absurd (z (e ∙ w′))) (λ w′. sym w ∙ rw e w′) (name-told q k f′ .1)) (name-told p h f .1)
 
   told : {m : Key} {x : List Node} (w : ForwardAt t m x) → Told A R S E no-scopes 0 (w .0) x
   told w = subst (Told A R S E no-scopes 0 (w .0)) (w .3) (step-told A R S E (w .2) no-scopes 0 0 lines g (λ q i. barred-none S E q))

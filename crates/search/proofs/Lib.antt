@@ -1,4 +1,5 @@
 -- Why the search finds the first step.
 pub mod Parts
+pub mod Sought
 pub mod Reached
 pub mod Answers

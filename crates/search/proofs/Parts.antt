@@ -1,6 +1,6 @@
--- The parts of the search: the complement of an action, and going up by the row of sides.
+-- The parts of the search: the test of two actions, and going up by the row of sides.
 use mathlib.Core.Path.{_≡_, refl, sym}
-use mathlib.Core.Logic.{_⊎_, inl, inr, ⊎-elim, _≢_, _↔_}
+use mathlib.Core.Logic.{_⊎_, inl, inr, ⊎-elim, _↔_}
 use mathlib.Core.List.{List}
 use mathlib.Core.Bool.{true, false, false≢true}
 use Prim.Native.Nat.{ℕ, _+_, _-_, _<_, _≤_}
@@ -9,27 +9,17 @@ use native.Mathlib.Omega.{arith}
 use borrow.Author.Tests.{eqb-true, eq-eqb, ltb-true, lt-ltb}
 use lib.Dec.{eqb, ltb}
 use lib.ListN.{getD}
-use Rattle.ccsk.proofs.Place.{co-pos}
-use Rattle.paths.specs.Rows.{Barred}
+use Rattle.paths.specs.Rows.{no-action, Barred}
 use Rattle.paths.proofs.Climb.{barred-none, barred-case, barred-here, barred-above}
-use Rattle.search.specs.Scan.{Wants, Agrees, Climbed, Clear}
+use Rattle.search.specs.Scan.{Agrees, Climbed, Clear}
 
-pub wants-none : (a : ℕ) → a ≡ 0 → Wants a 0
-wants-none a e = record { joins = λ b. (λ c. absurd (omega (arith, co-pos c)), λ w. absurd (w .1 refl)) }
-
-pub wants-co-name : (a : ℕ) → a ≢ 0 → a < 128 → Wants a (a + 128)
-wants-co-name a z h = record { joins = λ b. (λ c. ⊎-elim (λ i. (sym (i .1), λ w. omega arith)) (λ i. absurd (omega arith)) c, λ w. inl ((omega arith, omega arith), sym (w .0))) }
-
-pub wants-name : (a : ℕ) → 128 ≤ a → a < 256 → Wants a (a - 128)
-wants-name a h g = record { joins = λ b. (λ c. ⊎-elim (λ i. absurd (omega arith)) (λ i. (omega arith, λ w. omega arith)) c, λ w. inr ((omega (arith, w .0, w .1), omega (arith, w .0)), omega (arith, w .0))) }
-
-pub agree-none : (w b r s : ℕ) → w ≡ 0 → Agrees w b r s false
+pub agree-none : (w b r s : ℕ) → w ≡ no-action → Agrees w b r s false
 agree-none w b r s e = record { tells = (λ f. absurd (false≢true f), λ i. absurd (i .0 .1 e)) }
 
 pub agree-not : (w b r s : ℕ) → (w ≡ b → ⊥) → Agrees w b r s false
 agree-not w b r s e = record { tells = (λ f. absurd (false≢true f), λ i. absurd (e (i .0 .0))) }
 
-pub agree-same : (w b r s : ℕ) → (w ≡ 0 → ⊥) → w ≡ b → Agrees w b r s (eqb r s)
+pub agree-same : (w b r s : ℕ) → (w ≡ no-action → ⊥) → w ≡ b → Agrees w b r s (eqb r s)
 agree-same w b r s z e = record { tells = (λ f. ((e, z), eqb-true r s f), λ i. eq-eqb r s (i .1)) }
 
 module _ (side q : ℕ) (S E : List ℕ) where

@@ -14,7 +14,9 @@ use Rattle.paths.specs.Rows.{no-action, Barred, Alone, Joined}
 use Rattle.paths.proofs.Channels.{co-action}
 use Rattle.paths.proofs.Steps.{low-sides, free-alone, free-joined}
 use Rattle.index.specs.Whole.{Rows}
-use Rattle.search.specs.Scan.{Wants, Agrees, LowSides, Climbed, Clear}
+use Rattle.links.specs.Links.{turn, Able, Scoped, Next, Linked}
+use Rattle.links.proofs.Turns.{co-turn, turn-co, rows-scoped}
+use Rattle.search.specs.Scan.{Mate, Sought, LowSides, Climbed, Clear}
 
 -- the label of a step, by the row of actions
 abbrev pub labelOf : List ℕ → Node → Node → Label
@@ -28,7 +30,10 @@ module _ (A R S E : List ℕ) (n : ℕ) where
 
   -- from j to before k, i has no partner
   abbrev pub Passed : Node → Node → Node → Type 0
-  Passed i j k = (j′ : Node) → j ≤ j′ → j′ < k → ¬ Joined A R S E i j′
+  Passed i j k = (j′ : Node) → j ≤ j′ → j′ < k → j′ < n → ¬ Joined A R S E i j′
+
+  joined-mate : (i j : Node) → j < n → Joined A R S E i j → Mate n A R i j
+  joined-mate i j h J = ((h, co-action _ _ (J .complementary) .1), co-turn _ _ (J .complementary), sym (J .together))
 
   -- the side from which the search goes up stands for that of i
   abbrev pub Above : Node → Node → Node → Type 0
@@ -69,47 +74,55 @@ module _ (A R S E : List ℕ) (n : ℕ) where
         rest i′ j′ g a (no h) = inr (g .0, omega arith)
 
     -- i does not step alone: its partners come next
-    pub reached-pairs : (i j k : Node) → Reached i j → ((j ≡ 0) × (getD R i 0 ≡ 0) → ⊥) → j ≤ k → i + 1 ≤ k → ((z : Node) → j ≤ z → i + 1 ≤ z → k ≤ z) → Reached i k
-    reached-pairs i j k r f h g l = reached-past i j k r h (λ j′ o s a. ⊎-elim (λ b. f (omega (arith, b .0), b .1 .open-above)) (λ b. omega (arith, l j′ o (omega (arith, b .1 .order)))) (a .1))
+    pub reached-pairs : (i from j : Node) → Reached i from → ((from ≡ 0) × (getD R i 0 ≡ 0) → ⊥) → Sought n A R i from j → Reached i j
+    reached-pairs i from j r f s = reached-past i from j r (s .after) (λ j′ o l a. ⊎-elim (λ b. f (omega (arith, b .0), b .1 .open-above)) (λ b. s .first j′ (b .1 .order) o l (joined-mate i j′ (b .0) (b .1))) (a .1))
 
     -- from j to before k, i has no partner
     pub reached-pass : (i j k : Node) → Reached i j → i < j → j ≤ k → Passed i j k → Reached i k
-    reached-pass i j k r o h f = reached-past i j k r h (λ j′ l g a. ⊎-elim (λ b. omega arith) (λ b. f j′ l g (b .1)) (a .1))
+    reached-pass i j k r o h f = reached-past i j k r h (λ j′ l g a. ⊎-elim (λ b. omega arith) (λ b. f j′ l g (b .0) (b .1)) (a .1))
 
 -- one turn of the search for a partner of i
-module _ (A R S E : List ℕ) (n k i j side w : ℕ) (b : Bool) (W : Wants (getD A i 0) w) (G : Agrees w (getD A j 0) (getD R i 0) (getD R j 0) b) where
-  pub passed-more : (f : Passed A R S E n i k j) → ¬ Joined A R S E i j → Passed A R S E n i k (j + 1)
-  passed-more f g j′ h l = pick (ℕ-discrete j′ j)
-    where
-      pick : Dec (j′ ≡ j) → ¬ Joined A R S E i j′
-      pick (yes e) J = g (rw e at J)
-      pick (no e) J = f j′ h (omega arith) J
+module _ (A R S E T P : List ℕ) (n k i j side r : ℕ) (c : Bool) (few : n ≤ node-limit) (scoped : Scoped n A R) (able : Able n A R i) (L : Linked n A R T P) (m : Mate n A R i j)
+    (a : Above A R S E n i j side) (C : Climbed side j S E r) (D : Clear r j E c) where
+  above-more : Above A R S E n i j r
+  above-more = (omega (arith, a .0, C .low), λ l h. (λ x. C .same l h .0 (a .1 l h .0 x), λ x. a .1 l h .1 (C .same l h .1 x)))
 
-  -- the actions or the scopes do not agree
-  pub no-partner : b ≡ false → ¬ Joined A R S E i j
-  no-partner e J = true≢false (sym (G .tells .1 (W .joins (getD A j 0) .0 (J .complementary), J .together)) ∙ e)
+  -- i is barred from j
+  barred-partner : c ≡ false → ¬ Joined A R S E i j
+  barred-partner e J = true≢false (sym (D .tells S .1 (λ x. J .apart (above-more .1 j (omega arith) .1 x))) ∙ e)
 
-  module _ (r : ℕ) (c : Bool) (a : Above A R S E n i j side) (C : Climbed side j S E r) (D : Clear r j E c) where
-    pub above-more : Above A R S E n i j r
-    above-more = (omega (arith, a .0, C .low), λ l h. (λ x. C .same l h .0 (a .1 l h .0 x), λ x. a .1 l h .1 (C .same l h .1 x)))
+  -- j is a partner of i
+  pub partner : c ≡ true → i < j → Joined A R S E i j
+  partner f o = record {
+    order = o;
+    complementary = turn-co _ _ (scoped .action i able) (able .1) (m .0 .1) (m .1);
+    together = sym (m .2);
+    apart = λ x. D .tells S .0 f (above-more .1 j (omega arith) .0 x);
+  }
 
-    -- i is barred from j
-    pub barred-partner : c ≡ false → ¬ Joined A R S E i j
-    barred-partner e J = true≢false (sym (D .tells S .1 (λ x. J .apart (above-more .1 j (omega arith) .1 x))) ∙ e)
+  -- the search goes on at the twin of j
+  module _ (x : Node) (q : x ≡ getD T j 0) where
+    twin-next : Next n A R (turn (getD A i 0)) (getD R i 0) (j + 1) x
+    twin-next = rw (← m .1, ← m .2, q) (L .twin j (m .0))
 
-    -- j is a partner of i
-    pub partner : b ≡ true → c ≡ true → i < j → Joined A R S E i j
-    partner e f o = let g = G .tells .0 e in record {
-      order = o;
-      complementary = W .joins (getD A j 0) .1 (g .0);
-      together = g .1;
-      apart = λ x. D .tells S .0 f (above-more .1 j (omega arith) .0 x);
-    }
+    pub twin-after : j < x
+    twin-after = omega (arith, twin-next .after)
 
-pub above-on : (A R S E : List ℕ) (n i j side : Node) → Above A R S E n i j side → Above A R S E n i (j + 1) side
-above-on A R S E n i j side a = (a .0, λ k h. a .1 k (omega arith))
+    pub twin-mate : x < n → Mate n A R i x
+    twin-mate h = ⊎-elim (λ z. absurd (omega arith)) (λ z. z) (twin-next .there)
 
--- where the search for partners of i begins
+    pub twin-above : Above A R S E n i x r
+    twin-above = (above-more .0, λ l h. above-more .1 l (omega (arith, twin-after)))
+
+    pub twin-passed : c ≡ false → Passed A R S E n i k j → Passed A R S E n i k x
+    twin-passed e f j′ h l o = pick (ℕ-discrete j′ j) (decLt j′ j)
+      where
+        pick : Dec (j′ ≡ j) → Dec (j′ < j) → ¬ Joined A R S E i j′
+        pick (yes z) d J = barred-partner e (rw z at J)
+        pick (no z) (yes d) J = f j′ h d o J
+        pick (no z) (no d) J = twin-next .first j′ (omega arith) l (joined-mate A R S E n i j′ o J)
+
+-- where the search for partners of i begins, its side stands for itself
 pub above-start : (A R S E : List ℕ) (n i j side : Node) → LowSides n S → i < n → side ≡ getD S i 0 → Above A R S E n i j side
 above-start A R S E n i j side f h e = (omega (arith, f i h), λ k g. rw e (λ b. b, λ b. b))
 
@@ -151,3 +164,6 @@ module _ (t : Term) (n : ℕ) (A R S E : List ℕ) (W : Rows t n A R S E) where
 
   pub rows-few : n ≤ node-limit
   rows-few = omega (arith, W .count, W .fits .nodes)
+
+  pub rows-scopes : Scoped n A R
+  rows-scopes = rows-scoped A R S E n t (W .rows) (W .fits) (W .count)

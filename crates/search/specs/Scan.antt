@@ -5,16 +5,24 @@ use mathlib.Core.List.{List}
 use mathlib.Core.Bool.{Bool, true}
 use Prim.Native.Nat.{ℕ, _-_, _<_, _≤_}
 use lib.ListN.{getD}
-use Rattle.ccsk.specs.Term.{Label, Node, Co}
-use Rattle.paths.specs.Rows.{Barred}
-
--- w is the label that a joins with, or 0 where it joins with none
-pub record Wants (a w : Label) : Type 0 where
-  pub joins : (b : Label) → Co a b ↔ ((w ≡ b) × (w ≢ 0))
+use Rattle.ccsk.specs.Term.{Label, Node}
+use Rattle.paths.specs.Rows.{no-action, Barred}
+use Rattle.links.specs.Links.{turn, Offers}
 
 -- the test of an action and two scopes
 pub record Agrees (w b : Label) (r s : ℕ) (answer : Bool) : Type 0 where
-  pub tells : answer ≡ true ↔ (((w ≡ b) × (w ≢ 0)) × (r ≡ s))
+  pub tells : answer ≡ true ↔ (((w ≡ b) × (w ≢ no-action)) × (r ≡ s))
+
+-- j joins with i but for choices: it could step, with the action that joins with that of i, and has the same scope
+abbrev pub Mate : ℕ → List ℕ → List ℕ → Node → Node → Type 0
+Mate n A R i j = Offers n A R (turn (getD A i 0)) (getD R i 0) j
+
+-- x is past i, not before `from`, and no mate of i stands between; x itself is one, if it is a node
+pub record Sought (n : ℕ) (A R : List ℕ) (i from x : Node) : Type 0 where
+  pub past : i < x
+  pub after : from ≤ x
+  pub first : (j : Node) → i < j → from ≤ j → j < x → ¬ Mate n A R i j
+  pub there : x < n → Mate n A R i x
 
 -- no first side in which a node stands comes after the node
 abbrev pub LowSides : ℕ → List ℕ → Type 0

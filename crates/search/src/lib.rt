@@ -8,8 +8,11 @@ ghost use Rattle.format.specs.Limits.{node-limit};
 ghost use Rattle.operations.specs.Ask.{FirstStep};
 ghost use Rattle.index.specs.Whole.{SomeRows};
 ghost use Rattle.search.specs.First.{refusal, found, first-place, second-place, label, Next};
-ghost use Rattle.search.specs.Scan.{Wants, Agrees, LowSides, Climbed, Reaches, Clear};
+ghost use Rattle.links.specs.Links.{Able, Linked};
+ghost use Rattle.search.specs.Scan.{Agrees, Sought, LowSides, Climbed, Reaches, Clear};
 use index::index;
+use links::link;
+use links::turned;
 use reader::Count;
 use reader::NO_ACTION;
 use reader::NODES;
@@ -29,24 +32,11 @@ fn number(x: u16) -> usize
     x as usize
 }
 
-// The complement of an action; 0 where there is none.
-fn complement(a: u8) -> u8
-    ensures { λ r. ⌜ Wants a r ⌝ }
-{
-    if a == 0 {
-        return 0;
-    }
-    if a < 128 {
-        return a + 128;
-    }
-    a - 128
-}
-
 // Whether an action is the wanted one, under the same restriction.
 fn agree(want: u8, action: u8, scope: u16, other: u16) -> bool
     ensures { λ r. ⌜ Agrees want action scope other r ⌝ }
 {
-    if want == 0 {
+    if want == NO_ACTION {
         return false;
     }
     if want == action {
@@ -55,14 +45,39 @@ fn agree(want: u8, action: u8, scope: u16, other: u16) -> bool
     false
 }
 
-// The larger of two numbers.
-fn later(x: usize, y: usize) -> usize
-    ensures { λ r. ⌜ (x ≤ r) × (y ≤ r) × ((z : ℕ) → x ≤ z → y ≤ z → r ≤ z) ⌝ }
+// The first node at or after `from` that the place i could join with but for choices. A question that goes on where the last one ended
+// is led on by a link.
+fn seek(
+    actions: &[u8; NODES],
+    scopes: &[u16; NODES],
+    twins: &[u16; NODES],
+    partners: &[u16; NODES],
+    nodes: usize,
+    i: usize,
+    from: usize,
+) -> usize
+    requires { ⌜ (nodes ≤ node-limit) × Able nodes (now actions) (now scopes) i × Linked nodes (now actions) (now scopes) (now twins) (now partners) ⌝ }
+    requires { ⌜ (length (now actions) ≡ node-limit) × (length (now scopes) ≡ node-limit) ⌝ }
+    ensures { λ r. ⌜ Sought nodes (now (actions .entry)) (now (scopes .entry)) i from r ⌝ }
 {
-    if x < y {
-        return y;
+    if from <= i + 1 {
+        return number(partners[i]);
     }
-    x
+    let want = turned(actions[i]);
+    let last = from - 1;
+    if last < nodes {
+        if agree(want, actions[last], scopes[last], scopes[i]) {
+            return number(twins[last]);
+        }
+    }
+    let mut j = from;
+    while j < nodes {
+        if agree(want, actions[j], scopes[j], scopes[i]) {
+            return j;
+        }
+        j += 1;
+    }
+    j
 }
 
 // From the first side of a choice, or 0, up to the first side of the nearest choice that does not end before node q.
@@ -103,17 +118,20 @@ fn is_alone(from: usize, scope: u16) -> bool
 }
 
 // The first step at or after (p, q), by the rows that `index` has filled for a record of so many nodes. A listing asks it again and again.
-// Partners of a place are passed over in constant time, and going up past choices costs each place no more than its depth.
+// The links pass over every node that a place could not join with, and going up past choices costs each place no more than its depth.
 pub fn next_step(
     actions: &[u8; NODES],
     scopes: &[u16; NODES],
     sides: &[u16; NODES],
     ends: &[u16; NODES],
+    twins: &[u16; NODES],
+    partners: &[u16; NODES],
     nodes: usize,
     p: Node,
     q: Node,
 ) -> First
     requires { ⌜ SomeRows nodes (now actions) (now scopes) (now sides) (now ends) ⌝ }
+    requires { ⌜ Linked nodes (now actions) (now scopes) (now twins) (now partners) ⌝ }
     ensures { λ r. ⌜ Next nodes (now (actions .entry)) (now (scopes .entry)) (now (sides .entry)) (now (ends .entry)) (p .0) (q .0) r ⌝ }
 {
     let mut i = number(p.0);
@@ -132,17 +150,14 @@ pub fn next_step(
             label = action;
             break 'search;
         }
-        let want = complement(action);
+        j = seek(actions, scopes, twins, partners, nodes, i, from);
         let mut side = number(sides[i]);
-        j = later(from, i + 1);
         while j < nodes {
-            if agree(want, actions[j], scopes[i], scopes[j]) {
-                side = climb(side, j, nodes, sides, ends);
-                if is_clear(side, j, ends) {
-                    break 'search;
-                }
+            side = climb(side, j, nodes, sides, ends);
+            if is_clear(side, j, ends) {
+                break 'search;
             }
-            j += 1;
+            j = number(twins[j]);
         }
         from = 0;
         i += 1;
@@ -167,6 +182,11 @@ pub fn first_step(record: &[u8], p: Node, q: Node) -> First
     let mut ends = [0u16; NODES];
     match index(record, &mut actions, &mut scopes, &mut sides, &mut ends) {
         Count::Refused(c) => First::Refused(c),
-        Count::Nodes(n) => next_step(&actions, &scopes, &sides, &ends, n, p, q),
+        Count::Nodes(n) => {
+            let mut twins = [0u16; NODES];
+            let mut partners = [0u16; NODES];
+            link(&actions, &scopes, n, &mut twins, &mut partners);
+            next_step(&actions, &scopes, &sides, &ends, &twins, &partners, n, p, q)
+        }
     }
 }

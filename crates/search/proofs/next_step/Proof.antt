@@ -4,22 +4,23 @@ use native.Mathlib.Omega.{arith}
 use mathlib.Core.Path.{_≡_, refl, sym, _∙_}
 use mathlib.Core.Logic.{inr, ⊎-elim}
 use mathlib.Core.Bool.{true≢false}
-use Prim.Native.Nat.{_-_, _≤_}
-use Rattle.search.proofs.Reached.{Reached, Passed, Above, above-start, above-on, reached-start, reached-skip, reached-row, reached-pairs, reached-pass, passed-more, no-partner, above-more, barred-partner, partner, Ended, ended-alone, ended-joined, reached-found, reached-none, rows-low, rows-few}
+use Prim.Native.Nat.{_-_, _≤_, _<_}
+use Rattle.search.specs.Scan.{Mate}
+use Rattle.search.proofs.Reached.{Reached, Passed, Above, above-start, reached-start, reached-skip, reached-row, reached-pairs, reached-pass, twin-after, twin-mate, twin-above, twin-passed, partner, Ended, ended-alone, ended-joined, reached-found, reached-none, rows-low, rows-few, rows-scopes}
 use Rattle.search.proofs.next_step.Statement.{statement}
 use Rattle.search.proofs.next_step.Tie as tie
 
 abbrev Inv-loop : tie.InvT-loop
-Inv-loop actions scopes sides ends nodes i from j₀ label action want side₀ j side = (j₀ ≤ j) × Passed actions scopes sides ends nodes i j₀ j × Above actions scopes sides ends nodes i j side
+Inv-loop actions scopes sides ends twins partners nodes i from j₀ label action side₀ j side = (j₀ ≤ j) × Passed actions scopes sides ends nodes i j₀ j × Above actions scopes sides ends nodes i j side × (j < nodes → Mate nodes actions scopes i j)
 
 abbrev μ-loop : tie.MeasureT-loop
-μ-loop actions scopes sides ends nodes i from j₀ label action want side₀ j side = nodes - j
+μ-loop actions scopes sides ends twins partners nodes i from j₀ label action side₀ j side = nodes - j
 
 abbrev Inv-search : tie.InvT-search
-Inv-search actions scopes sides ends nodes i₀ from₀ j₀ label₀ i from j label = (label ≡ 0) × Reached actions scopes sides ends nodes i₀ from₀ i from
+Inv-search actions scopes sides ends twins partners nodes i₀ from₀ j₀ label₀ i from j label = (label ≡ 0) × Reached actions scopes sides ends nodes i₀ from₀ i from
 
 abbrev μ-search : tie.MeasureT-search
-μ-search actions scopes sides ends nodes i₀ from₀ j₀ label₀ i from j label = nodes - i
+μ-search actions scopes sides ends twins partners nodes i₀ from₀ j₀ label₀ i from j label = nodes - i
 
 number-requires : tie.Need-number-requires Inv-loop μ-loop Inv-search μ-search
 number-requires c κs = tt
@@ -51,8 +52,8 @@ element-copy-out-is-alone c = search needs
 is-alone-requires : tie.Need-is-alone-requires Inv-loop μ-loop Inv-search μ-search
 is-alone-requires c κs = tt
 
-complement-requires : tie.Need-complement-requires Inv-loop μ-loop Inv-search μ-search
-complement-requires c κs = tt
+seek-requires : tie.Need-seek-requires Inv-loop μ-loop Inv-search μ-search
+seek-requires c κs = ((rows-few (c .before .before .before .before .before .before .before .before .before .pre .0 .0) (c .before .before .before .before .before .before .before .before .before .args .nodes) (c .before .before .before .before .before .before .before .before .before .args .actions .now) (c .before .before .before .before .before .before .before .before .before .args .scopes .now) (c .before .before .before .before .before .before .before .before .before .args .sides .now) (c .before .before .before .before .before .before .before .before .before .args .ends .now) (c .before .before .before .before .before .before .before .before .before .pre .0 .1), (c .before .before .before .before .before .search-test .taken, c .before .before .before .if1 .left), c .before .before .before .before .before .before .before .before .before .pre .1), (c .before .before .before .before .before .before .before .before .before .pre .0 .1 .action-room, c .before .before .before .before .before .before .before .before .before .pre .0 .1 .scope-room))
 
 mul-number : tie.Need-mul-number Inv-loop μ-loop Inv-search μ-search
 mul-number c = search needs
@@ -63,47 +64,29 @@ element-copy-out-number c = search needs
 number-requires-3 : tie.Need-number-requires-3 Inv-loop μ-loop Inv-search μ-search
 number-requires-3 c κs = tt
 
-add-later : tie.Need-add-later Inv-loop μ-loop Inv-search μ-search
-add-later c = search needs
-
-later-requires : tie.Need-later-requires Inv-loop μ-loop Inv-search μ-search
-later-requires c κs = tt
-
 loop-holds : tie.Need-loop-holds Inv-loop μ-loop Inv-search μ-search
-loop-holds c = (omega arith, (λ k h l. absurd (omega arith)), above-start (c .before .before .before .before .before .before .before .before .before .before .before .before .before .args .actions .now) (c .before .before .before .before .before .before .before .before .before .before .before .before .before .args .scopes .now) (c .before .before .before .before .before .before .before .before .before .before .before .before .before .args .sides .now) (c .before .before .before .before .before .before .before .before .before .before .before .before .before .args .ends .now) (c .before .before .before .before .before .before .before .before .before .before .before .before .before .args .nodes) (c .before .before .before .before .before .before .before .before .before .before .search .i) _ (c .before .number3 .result) (rows-low (c .before .before .before .before .before .before .before .before .before .before .before .before .before .pre .0) (c .before .before .before .before .before .before .before .before .before .before .before .before .before .args .nodes) (c .before .before .before .before .before .before .before .before .before .before .before .before .before .args .actions .now) (c .before .before .before .before .before .before .before .before .before .before .before .before .before .args .scopes .now) (c .before .before .before .before .before .before .before .before .before .before .before .before .before .args .sides .now) (c .before .before .before .before .before .before .before .before .before .before .before .before .before .args .ends .now) (c .before .before .before .before .before .before .before .before .before .before .before .before .before .pre .1)) (c .before .before .before .before .before .before .before .before .before .search-test .taken) (c .before .number3 .ensures))
-
-element-copy-out-agree : tie.Need-element-copy-out-agree Inv-loop μ-loop Inv-search μ-search
-element-copy-out-agree c = search needs
-
-mul-agree : tie.Need-mul-agree Inv-loop μ-loop Inv-search μ-search
-mul-agree c = search needs
-
-element-copy-out-agree-2 : tie.Need-element-copy-out-agree-2 Inv-loop μ-loop Inv-search μ-search
-element-copy-out-agree-2 c = search needs
-
-mul-agree-2 : tie.Need-mul-agree-2 Inv-loop μ-loop Inv-search μ-search
-mul-agree-2 c = search needs
-
-element-copy-out-agree-3 : tie.Need-element-copy-out-agree-3 Inv-loop μ-loop Inv-search μ-search
-element-copy-out-agree-3 c = search needs
-
-agree-requires : tie.Need-agree-requires Inv-loop μ-loop Inv-search μ-search
-agree-requires c κs = tt
+loop-holds c = (omega arith, (λ k h l. absurd (omega arith)), above-start (c .before .before .before .before .before .before .before .before .before .before .before .before .args .actions .now) (c .before .before .before .before .before .before .before .before .before .before .before .before .args .scopes .now) (c .before .before .before .before .before .before .before .before .before .before .before .before .args .sides .now) (c .before .before .before .before .before .before .before .before .before .before .before .before .args .ends .now) (c .before .before .before .before .before .before .before .before .before .before .before .before .args .nodes) (c .before .before .before .before .before .before .before .before .before .search .i) _ (c .number3 .result) (rows-low (c .before .before .before .before .before .before .before .before .before .before .before .before .pre .0 .0) (c .before .before .before .before .before .before .before .before .before .before .before .before .args .nodes) (c .before .before .before .before .before .before .before .before .before .before .before .before .args .actions .now) (c .before .before .before .before .before .before .before .before .before .before .before .before .args .scopes .now) (c .before .before .before .before .before .before .before .before .before .before .before .before .args .sides .now) (c .before .before .before .before .before .before .before .before .before .before .before .before .args .ends .now) (c .before .before .before .before .before .before .before .before .before .before .before .before .pre .0 .1)) (c .before .before .before .before .before .before .before .before .search-test .taken) (c .number3 .ensures), c .before .before .seek .ensures .there)
 
 climb-requires : tie.Need-climb-requires Inv-loop μ-loop Inv-search μ-search
-climb-requires c κs = (omega (arith, c .before .before .before .before .before .before .loop .inv .2 .0), rows-few (c .before .before .before .before .before .before .before .before .before .before .before .before .before .before .before .before .before .before .before .before .pre .0) (c .before .before .before .before .before .before .before .before .before .before .before .before .before .before .before .before .before .before .before .before .args .nodes) _ _ _ _ (c .before .before .before .before .before .before .before .before .before .before .before .before .before .before .before .before .before .before .before .before .pre .1), rows-low (c .before .before .before .before .before .before .before .before .before .before .before .before .before .before .before .before .before .before .before .before .pre .0) (c .before .before .before .before .before .before .before .before .before .before .before .before .before .before .before .before .before .before .before .before .args .nodes) _ _ _ _ (c .before .before .before .before .before .before .before .before .before .before .before .before .before .before .before .before .before .before .before .before .pre .1), c .before .before .before .before .before .before .before .before .before .before .before .before .before .before .before .before .before .before .before .before .pre .1 .side-room, c .before .before .before .before .before .before .before .before .before .before .before .before .before .before .before .before .before .before .before .before .pre .1 .end-room)
+climb-requires c κs = (omega (arith, c .before .loop .inv .2 .0), rows-few (c .before .before .before .before .before .before .before .before .before .before .before .before .before .before .pre .0 .0) (c .before .before .before .before .before .before .before .before .before .before .before .before .before .before .args .nodes) (c .before .before .before .before .before .before .before .before .before .before .before .before .before .before .args .actions .now) (c .before .before .before .before .before .before .before .before .before .before .before .before .before .before .args .scopes .now) (c .before .before .before .before .before .before .before .before .before .before .before .before .before .before .args .sides .now) (c .before .before .before .before .before .before .before .before .before .before .before .before .before .before .args .ends .now) (c .before .before .before .before .before .before .before .before .before .before .before .before .before .before .pre .0 .1), rows-low (c .before .before .before .before .before .before .before .before .before .before .before .before .before .before .pre .0 .0) (c .before .before .before .before .before .before .before .before .before .before .before .before .before .before .args .nodes) (c .before .before .before .before .before .before .before .before .before .before .before .before .before .before .args .actions .now) (c .before .before .before .before .before .before .before .before .before .before .before .before .before .before .args .scopes .now) (c .before .before .before .before .before .before .before .before .before .before .before .before .before .before .args .sides .now) (c .before .before .before .before .before .before .before .before .before .before .before .before .before .before .args .ends .now) (c .before .before .before .before .before .before .before .before .before .before .before .before .before .before .pre .0 .1), c .before .before .before .before .before .before .before .before .before .before .before .before .before .before .pre .0 .1 .side-room, c .before .before .before .before .before .before .before .before .before .before .before .before .before .before .pre .0 .1 .end-room)
 
 is-clear-requires : tie.Need-is-clear-requires Inv-loop μ-loop Inv-search μ-search
-is-clear-requires c κs = (omega (arith, c .climb .ensures .low, c .before .before .before .before .before .before .before .loop .inv .2 .0, rows-few (c .before .before .before .before .before .before .before .before .before .before .before .before .before .before .before .before .before .before .before .before .before .pre .0) (c .before .before .before .before .before .before .before .before .before .before .before .before .before .before .before .before .before .before .before .before .before .args .nodes) _ _ _ _ (c .before .before .before .before .before .before .before .before .before .before .before .before .before .before .before .before .before .before .before .before .before .pre .1)), c .before .before .before .before .before .before .before .before .before .before .before .before .before .before .before .before .before .before .before .before .before .pre .1 .end-room, c .climb .ensures .reaches)
+is-clear-requires c κs = (omega (arith, c .climb .ensures .low, c .before .before .loop .inv .2 .0, rows-few (c .before .before .before .before .before .before .before .before .before .before .before .before .before .before .before .pre .0 .0) (c .before .before .before .before .before .before .before .before .before .before .before .before .before .before .before .args .nodes) (c .before .before .before .before .before .before .before .before .before .before .before .before .before .before .before .args .actions .now) (c .before .before .before .before .before .before .before .before .before .before .before .before .before .before .before .args .scopes .now) (c .before .before .before .before .before .before .before .before .before .before .before .before .before .before .before .args .sides .now) (c .before .before .before .before .before .before .before .before .before .before .before .before .before .before .before .args .ends .now) (c .before .before .before .before .before .before .before .before .before .before .before .before .before .before .before .pre .0 .1)), c .before .before .before .before .before .before .before .before .before .before .before .before .before .before .before .pre .0 .1 .end-room, c .climb .ensures .reaches)
 
-add-j : tie.Need-add-j Inv-loop μ-loop Inv-search μ-search
-add-j c = search needs
+mul-number-2 : tie.Need-mul-number-2 Inv-loop μ-loop Inv-search μ-search
+mul-number-2 c = omega (arith, rows-few (c .before .before .before .before .before .before .before .before .before .before .before .before .before .before .before .before .before .pre .0 .0) (c .before .before .before .before .before .before .before .before .before .before .before .before .before .before .before .before .before .args .nodes) (c .before .before .before .before .before .before .before .before .before .before .before .before .before .before .before .before .before .args .actions .now) (c .before .before .before .before .before .before .before .before .before .before .before .before .before .before .before .before .before .args .scopes .now) (c .before .before .before .before .before .before .before .before .before .before .before .before .before .before .before .before .before .args .sides .now) (c .before .before .before .before .before .before .before .before .before .before .before .before .before .before .before .before .before .args .ends .now) (c .before .before .before .before .before .before .before .before .before .before .before .before .before .before .before .before .before .pre .0 .1))
+
+element-copy-out-number-2 : tie.Need-element-copy-out-number-2 Inv-loop μ-loop Inv-search μ-search
+element-copy-out-number-2 c = omega (arith, c .before .before .before .before .before .before .before .before .before .before .before .before .before .before .before .before .before .pre .1 .twin-room, rows-few (c .before .before .before .before .before .before .before .before .before .before .before .before .before .before .before .before .before .pre .0 .0) (c .before .before .before .before .before .before .before .before .before .before .before .before .before .before .before .before .before .args .nodes) (c .before .before .before .before .before .before .before .before .before .before .before .before .before .before .before .before .before .args .actions .now) (c .before .before .before .before .before .before .before .before .before .before .before .before .before .before .before .before .before .args .scopes .now) (c .before .before .before .before .before .before .before .before .before .before .before .before .before .before .before .before .before .args .sides .now) (c .before .before .before .before .before .before .before .before .before .before .before .before .before .before .before .before .before .args .ends .now) (c .before .before .before .before .before .before .before .before .before .before .before .before .before .before .before .before .before .pre .0 .1))
+
+number-requires-4 : tie.Need-number-requires-4 Inv-loop μ-loop Inv-search μ-search
+number-requires-4 c κs = tt
 
 loop-less : tie.Need-loop-less Inv-loop μ-loop Inv-search μ-search
-loop-less c = search needs
+loop-less c = omega (arith, twin-after (c .before .before .before .before .before .before .before .before .before .before .before .before .before .before .before .before .before .before .before .args .actions .now) (c .before .before .before .before .before .before .before .before .before .before .before .before .before .before .before .before .before .before .before .args .scopes .now) (c .before .before .before .before .before .before .before .before .before .before .before .before .before .before .before .before .before .before .before .args .sides .now) (c .before .before .before .before .before .before .before .before .before .before .before .before .before .before .before .before .before .before .before .args .ends .now) _ _ (c .before .before .before .before .before .before .before .before .before .before .before .before .before .before .before .before .before .before .before .args .nodes) (c .before .before .before .before .before .before .before .before .before .seek .result) (c .before .before .before .before .before .before .before .before .before .before .before .before .before .before .before .before .search .i) (c .before .before .before .before .before .before .loop .j) (c .before .before .before .before .before .before .loop .side) (c .before .before .before .before .climb .result) (c .before .before .before .is-clear .result) (rows-few (c .before .before .before .before .before .before .before .before .before .before .before .before .before .before .before .before .before .before .before .pre .0 .0) (c .before .before .before .before .before .before .before .before .before .before .before .before .before .before .before .before .before .before .before .args .nodes) (c .before .before .before .before .before .before .before .before .before .before .before .before .before .before .before .before .before .before .before .args .actions .now) (c .before .before .before .before .before .before .before .before .before .before .before .before .before .before .before .before .before .before .before .args .scopes .now) (c .before .before .before .before .before .before .before .before .before .before .before .before .before .before .before .before .before .before .before .args .sides .now) (c .before .before .before .before .before .before .before .before .before .before .before .before .before .before .before .before .before .before .before .args .ends .now) (c .before .before .before .before .before .before .before .before .before .before .before .before .before .before .before .before .before .before .before .pre .0 .1)) (rows-scopes (c .before .before .before .before .before .before .before .before .before .before .before .before .before .before .before .before .before .before .before .pre .0 .0) (c .before .before .before .before .before .before .before .before .before .before .before .before .before .before .before .before .before .before .before .args .nodes) (c .before .before .before .before .before .before .before .before .before .before .before .before .before .before .before .before .before .before .before .args .actions .now) (c .before .before .before .before .before .before .before .before .before .before .before .before .before .before .before .before .before .before .before .args .scopes .now) (c .before .before .before .before .before .before .before .before .before .before .before .before .before .before .before .before .before .before .before .args .sides .now) (c .before .before .before .before .before .before .before .before .before .before .before .before .before .before .before .before .before .before .before .args .ends .now) (c .before .before .before .before .before .before .before .before .before .before .before .before .before .before .before .before .before .before .before .pre .0 .1)) (c .before .before .before .before .before .before .before .before .before .before .before .before .before .before .before .search-test .taken, c .before .before .before .before .before .before .before .before .before .before .before .before .before .if1 .left) (c .before .before .before .before .before .before .before .before .before .before .before .before .before .before .before .before .before .before .before .pre .1) (c .before .before .before .before .before .before .loop .inv .3 (c .before .before .before .before .before .loop-test .taken)) (c .before .before .before .before .before .before .loop .inv .2) (c .before .before .before .before .climb .ensures) (c .before .before .before .is-clear .ensures) (c .number4 .result) (c .number4 .ensures))
 
 loop-again : tie.Need-loop-again Inv-loop μ-loop Inv-search μ-search
-loop-again c = ⊎-elim (λ w. (omega (arith, c .before .before .before .before .before .before .loop .inv .0), passed-more (c .before .before .before .before .before .before .before .before .before .before .before .before .before .before .before .before .before .before .before .before .args .actions .now) (c .before .before .before .before .before .before .before .before .before .before .before .before .before .before .before .before .before .before .before .before .args .scopes .now) (c .before .before .before .before .before .before .before .before .before .before .before .before .before .before .before .before .before .before .before .before .args .sides .now) (c .before .before .before .before .before .before .before .before .before .before .before .before .before .before .before .before .before .before .before .before .args .ends .now) (c .before .before .before .before .before .before .before .before .before .before .before .before .before .before .before .before .before .before .before .before .args .nodes) (c .before .before .before .before .before .before .before .later .result) (c .before .before .before .before .before .before .before .before .before .before .before .before .before .before .before .before .before .search .i) (c .before .before .before .before .before .before .loop .j) (c .before .before .before .before .before .before .loop .side) (c .before .before .before .before .before .before .before .before .before .before .complement .result) (c .before .agree .result) (c .before .before .before .before .before .before .before .before .before .before .complement .ensures) (c .before .agree .ensures) (c .before .before .before .before .before .before .loop .inv .1) (barred-partner (c .before .before .before .before .before .before .before .before .before .before .before .before .before .before .before .before .before .before .before .before .args .actions .now) (c .before .before .before .before .before .before .before .before .before .before .before .before .before .before .before .before .before .before .before .before .args .scopes .now) (c .before .before .before .before .before .before .before .before .before .before .before .before .before .before .before .before .before .before .before .before .args .sides .now) (c .before .before .before .before .before .before .before .before .before .before .before .before .before .before .before .before .before .before .before .before .args .ends .now) (c .before .before .before .before .before .before .before .before .before .before .before .before .before .before .before .before .before .before .before .before .args .nodes) (c .before .before .before .before .before .before .before .later .result) (c .before .before .before .before .before .before .before .before .before .before .before .before .before .before .before .before .before .search .i) (c .before .before .before .before .before .before .loop .j) (c .before .before .before .before .before .before .loop .side) (c .before .before .before .before .before .before .before .before .before .before .complement .result) (c .before .agree .result) (c .before .before .before .before .before .before .before .before .before .before .complement .ensures) (c .before .agree .ensures) (w .1 .result) (w .2 .result) (c .before .before .before .before .before .before .loop .inv .2) (w .1 .ensures) (w .2 .ensures) (w .3 .left)), rw (w .4) (above-on (c .before .before .before .before .before .before .before .before .before .before .before .before .before .before .before .before .before .before .before .before .args .actions .now) (c .before .before .before .before .before .before .before .before .before .before .before .before .before .before .before .before .before .before .before .before .args .scopes .now) (c .before .before .before .before .before .before .before .before .before .before .before .before .before .before .before .before .before .before .before .before .args .sides .now) (c .before .before .before .before .before .before .before .before .before .before .before .before .before .before .before .before .before .before .before .before .args .ends .now) (c .before .before .before .before .before .before .before .before .before .before .before .before .before .before .before .before .before .before .before .before .args .nodes) (c .before .before .before .before .before .before .before .before .before .before .before .before .before .before .before .before .before .search .i) (c .before .before .before .before .before .before .loop .j) (w .1 .result) (above-more (c .before .before .before .before .before .before .before .before .before .before .before .before .before .before .before .before .before .before .before .before .args .actions .now) (c .before .before .before .before .before .before .before .before .before .before .before .before .before .before .before .before .before .before .before .before .args .scopes .now) (c .before .before .before .before .before .before .before .before .before .before .before .before .before .before .before .before .before .before .before .before .args .sides .now) (c .before .before .before .before .before .before .before .before .before .before .before .before .before .before .before .before .before .before .before .before .args .ends .now) (c .before .before .before .before .before .before .before .before .before .before .before .before .before .before .before .before .before .before .before .before .args .nodes) (c .before .before .before .before .before .before .before .later .result) (c .before .before .before .before .before .before .before .before .before .before .before .before .before .before .before .before .before .search .i) (c .before .before .before .before .before .before .loop .j) (c .before .before .before .before .before .before .loop .side) (c .before .before .before .before .before .before .before .before .before .before .complement .result) (c .before .agree .result) (c .before .before .before .before .before .before .before .before .before .before .complement .ensures) (c .before .agree .ensures) (w .1 .result) (w .2 .result) (c .before .before .before .before .before .before .loop .inv .2) (w .1 .ensures) (w .2 .ensures))))) (λ w. (omega (arith, c .before .before .before .before .before .before .loop .inv .0), passed-more (c .before .before .before .before .before .before .before .before .before .before .before .before .before .before .before .before .before .before .before .before .args .actions .now) (c .before .before .before .before .before .before .before .before .before .before .before .before .before .before .before .before .before .before .before .before .args .scopes .now) (c .before .before .before .before .before .before .before .before .before .before .before .before .before .before .before .before .before .before .before .before .args .sides .now) (c .before .before .before .before .before .before .before .before .before .before .before .before .before .before .before .before .before .before .before .before .args .ends .now) (c .before .before .before .before .before .before .before .before .before .before .before .before .before .before .before .before .before .before .before .before .args .nodes) (c .before .before .before .before .before .before .before .later .result) (c .before .before .before .before .before .before .before .before .before .before .before .before .before .before .before .before .before .search .i) (c .before .before .before .before .before .before .loop .j) (c .before .before .before .before .before .before .loop .side) (c .before .before .before .before .before .before .before .before .before .before .complement .result) (c .before .agree .result) (c .before .before .before .before .before .before .before .before .before .before .complement .ensures) (c .before .agree .ensures) (c .before .before .before .before .before .before .loop .inv .1) (no-partner (c .before .before .before .before .before .before .before .before .before .before .before .before .before .before .before .before .before .before .before .before .args .actions .now) (c .before .before .before .before .before .before .before .before .before .before .before .before .before .before .before .before .before .before .before .before .args .scopes .now) (c .before .before .before .before .before .before .before .before .before .before .before .before .before .before .before .before .before .before .before .before .args .sides .now) (c .before .before .before .before .before .before .before .before .before .before .before .before .before .before .before .before .before .before .before .before .args .ends .now) (c .before .before .before .before .before .before .before .before .before .before .before .before .before .before .before .before .before .before .before .before .args .nodes) (c .before .before .before .before .before .before .before .later .result) (c .before .before .before .before .before .before .before .before .before .before .before .before .before .before .before .before .before .search .i) (c .before .before .before .before .before .before .loop .j) (c .before .before .before .before .before .before .loop .side) (c .before .before .before .before .before .before .before .before .before .before .complement .result) (c .before .agree .result) (c .before .before .before .before .before .before .before .before .before .before .complement .ensures) (c .before .agree .ensures) (w .0 .left)), rw (w .1) (above-on (c .before .before .before .before .before .before .before .before .before .before .before .before .before .before .before .before .before .before .before .before .args .actions .now) (c .before .before .before .before .before .before .before .before .before .before .before .before .before .before .before .before .before .before .before .before .args .scopes .now) (c .before .before .before .before .before .before .before .before .before .before .before .before .before .before .before .before .before .before .before .before .args .sides .now) (c .before .before .before .before .before .before .before .before .before .before .before .before .before .before .before .before .before .before .before .before .args .ends .now) (c .before .before .before .before .before .before .before .before .before .before .before .before .before .before .before .before .before .before .before .before .args .nodes) (c .before .before .before .before .before .before .before .before .before .before .before .before .before .before .before .before .before .search .i) (c .before .before .before .before .before .before .loop .j) (c .before .before .before .before .before .before .loop .side) (c .before .before .before .before .before .before .loop .inv .2)))) (c .if3 .came)
+loop-again c = (omega (arith, c .before .before .before .before .before .before .loop .inv .0, twin-after (c .before .before .before .before .before .before .before .before .before .before .before .before .before .before .before .before .before .before .before .args .actions .now) (c .before .before .before .before .before .before .before .before .before .before .before .before .before .before .before .before .before .before .before .args .scopes .now) (c .before .before .before .before .before .before .before .before .before .before .before .before .before .before .before .before .before .before .before .args .sides .now) (c .before .before .before .before .before .before .before .before .before .before .before .before .before .before .before .before .before .before .before .args .ends .now) _ _ (c .before .before .before .before .before .before .before .before .before .before .before .before .before .before .before .before .before .before .before .args .nodes) (c .before .before .before .before .before .before .before .before .before .seek .result) (c .before .before .before .before .before .before .before .before .before .before .before .before .before .before .before .before .search .i) (c .before .before .before .before .before .before .loop .j) (c .before .before .before .before .before .before .loop .side) (c .before .before .before .before .climb .result) (c .before .before .before .is-clear .result) (rows-few (c .before .before .before .before .before .before .before .before .before .before .before .before .before .before .before .before .before .before .before .pre .0 .0) (c .before .before .before .before .before .before .before .before .before .before .before .before .before .before .before .before .before .before .before .args .nodes) (c .before .before .before .before .before .before .before .before .before .before .before .before .before .before .before .before .before .before .before .args .actions .now) (c .before .before .before .before .before .before .before .before .before .before .before .before .before .before .before .before .before .before .before .args .scopes .now) (c .before .before .before .before .before .before .before .before .before .before .before .before .before .before .before .before .before .before .before .args .sides .now) (c .before .before .before .before .before .before .before .before .before .before .before .before .before .before .before .before .before .before .before .args .ends .now) (c .before .before .before .before .before .before .before .before .before .before .before .before .before .before .before .before .before .before .before .pre .0 .1)) (rows-scopes (c .before .before .before .before .before .before .before .before .before .before .before .before .before .before .before .before .before .before .before .pre .0 .0) (c .before .before .before .before .before .before .before .before .before .before .before .before .before .before .before .before .before .before .before .args .nodes) (c .before .before .before .before .before .before .before .before .before .before .before .before .before .before .before .before .before .before .before .args .actions .now) (c .before .before .before .before .before .before .before .before .before .before .before .before .before .before .before .before .before .before .before .args .scopes .now) (c .before .before .before .before .before .before .before .before .before .before .before .before .before .before .before .before .before .before .before .args .sides .now) (c .before .before .before .before .before .before .before .before .before .before .before .before .before .before .before .before .before .before .before .args .ends .now) (c .before .before .before .before .before .before .before .before .before .before .before .before .before .before .before .before .before .before .before .pre .0 .1)) (c .before .before .before .before .before .before .before .before .before .before .before .before .before .before .before .search-test .taken, c .before .before .before .before .before .before .before .before .before .before .before .before .before .if1 .left) (c .before .before .before .before .before .before .before .before .before .before .before .before .before .before .before .before .before .before .before .pre .1) (c .before .before .before .before .before .before .loop .inv .3 (c .before .before .before .before .before .loop-test .taken)) (c .before .before .before .before .before .before .loop .inv .2) (c .before .before .before .before .climb .ensures) (c .before .before .before .is-clear .ensures) (c .number4 .result) (c .number4 .ensures)), twin-passed (c .before .before .before .before .before .before .before .before .before .before .before .before .before .before .before .before .before .before .before .args .actions .now) (c .before .before .before .before .before .before .before .before .before .before .before .before .before .before .before .before .before .before .before .args .scopes .now) (c .before .before .before .before .before .before .before .before .before .before .before .before .before .before .before .before .before .before .before .args .sides .now) (c .before .before .before .before .before .before .before .before .before .before .before .before .before .before .before .before .before .before .before .args .ends .now) _ _ (c .before .before .before .before .before .before .before .before .before .before .before .before .before .before .before .before .before .before .before .args .nodes) (c .before .before .before .before .before .before .before .before .before .seek .result) (c .before .before .before .before .before .before .before .before .before .before .before .before .before .before .before .before .search .i) (c .before .before .before .before .before .before .loop .j) (c .before .before .before .before .before .before .loop .side) (c .before .before .before .before .climb .result) (c .before .before .before .is-clear .result) (rows-few (c .before .before .before .before .before .before .before .before .before .before .before .before .before .before .before .before .before .before .before .pre .0 .0) (c .before .before .before .before .before .before .before .before .before .before .before .before .before .before .before .before .before .before .before .args .nodes) (c .before .before .before .before .before .before .before .before .before .before .before .before .before .before .before .before .before .before .before .args .actions .now) (c .before .before .before .before .before .before .before .before .before .before .before .before .before .before .before .before .before .before .before .args .scopes .now) (c .before .before .before .before .before .before .before .before .before .before .before .before .before .before .before .before .before .before .before .args .sides .now) (c .before .before .before .before .before .before .before .before .before .before .before .before .before .before .before .before .before .before .before .args .ends .now) (c .before .before .before .before .before .before .before .before .before .before .before .before .before .before .before .before .before .before .before .pre .0 .1)) (rows-scopes (c .before .before .before .before .before .before .before .before .before .before .before .before .before .before .before .before .before .before .before .pre .0 .0) (c .before .before .before .before .before .before .before .before .before .before .before .before .before .before .before .before .before .before .before .args .nodes) (c .before .before .before .before .before .before .before .before .before .before .before .before .before .before .before .before .before .before .before .args .actions .now) (c .before .before .before .before .before .before .before .before .before .before .before .before .before .before .before .before .before .before .before .args .scopes .now) (c .before .before .before .before .before .before .before .before .before .before .before .before .before .before .before .before .before .before .before .args .sides .now) (c .before .before .before .before .before .before .before .before .before .before .before .before .before .before .before .before .before .before .before .args .ends .now) (c .before .before .before .before .before .before .before .before .before .before .before .before .before .before .before .before .before .before .before .pre .0 .1)) (c .before .before .before .before .before .before .before .before .before .before .before .before .before .before .before .search-test .taken, c .before .before .before .before .before .before .before .before .before .before .before .before .before .if1 .left) (c .before .before .before .before .before .before .before .before .before .before .before .before .before .before .before .before .before .before .before .pre .1) (c .before .before .before .before .before .before .loop .inv .3 (c .before .before .before .before .before .loop-test .taken)) (c .before .before .before .before .before .before .loop .inv .2) (c .before .before .before .before .climb .ensures) (c .before .before .before .is-clear .ensures) (c .number4 .result) (c .number4 .ensures) (c .before .before .if3 .left) (c .before .before .before .before .before .before .loop .inv .1), twin-above (c .before .before .before .before .before .before .before .before .before .before .before .before .before .before .before .before .before .before .before .args .actions .now) (c .before .before .before .before .before .before .before .before .before .before .before .before .before .before .before .before .before .before .before .args .scopes .now) (c .before .before .before .before .before .before .before .before .before .before .before .before .before .before .before .before .before .before .before .args .sides .now) (c .before .before .before .before .before .before .before .before .before .before .before .before .before .before .before .before .before .before .before .args .ends .now) _ _ (c .before .before .before .before .before .before .before .before .before .before .before .before .before .before .before .before .before .before .before .args .nodes) (c .before .before .before .before .before .before .before .before .before .seek .result) (c .before .before .before .before .before .before .before .before .before .before .before .before .before .before .before .before .search .i) (c .before .before .before .before .before .before .loop .j) (c .before .before .before .before .before .before .loop .side) (c .before .before .before .before .climb .result) (c .before .before .before .is-clear .result) (rows-few (c .before .before .before .before .before .before .before .before .before .before .before .before .before .before .before .before .before .before .before .pre .0 .0) (c .before .before .before .before .before .before .before .before .before .before .before .before .before .before .before .before .before .before .before .args .nodes) (c .before .before .before .before .before .before .before .before .before .before .before .before .before .before .before .before .before .before .before .args .actions .now) (c .before .before .before .before .before .before .before .before .before .before .before .before .before .before .before .before .before .before .before .args .scopes .now) (c .before .before .before .before .before .before .before .before .before .before .before .before .before .before .before .before .before .before .before .args .sides .now) (c .before .before .before .before .before .before .before .before .before .before .before .before .before .before .before .before .before .before .before .args .ends .now) (c .before .before .before .before .before .before .before .before .before .before .before .before .before .before .before .before .before .before .before .pre .0 .1)) (rows-scopes (c .before .before .before .before .before .before .before .before .before .before .before .before .before .before .before .before .before .before .before .pre .0 .0) (c .before .before .before .before .before .before .before .before .before .before .before .before .before .before .before .before .before .before .before .args .nodes) (c .before .before .before .before .before .before .before .before .before .before .before .before .before .before .before .before .before .before .before .args .actions .now) (c .before .before .before .before .before .before .before .before .before .before .before .before .before .before .before .before .before .before .before .args .scopes .now) (c .before .before .before .before .before .before .before .before .before .before .before .before .before .before .before .before .before .before .before .args .sides .now) (c .before .before .before .before .before .before .before .before .before .before .before .before .before .before .before .before .before .before .before .args .ends .now) (c .before .before .before .before .before .before .before .before .before .before .before .before .before .before .before .before .before .before .before .pre .0 .1)) (c .before .before .before .before .before .before .before .before .before .before .before .before .before .before .before .search-test .taken, c .before .before .before .before .before .before .before .before .before .before .before .before .before .if1 .left) (c .before .before .before .before .before .before .before .before .before .before .before .before .before .before .before .before .before .before .before .pre .1) (c .before .before .before .before .before .before .loop .inv .3 (c .before .before .before .before .before .loop-test .taken)) (c .before .before .before .before .before .before .loop .inv .2) (c .before .before .before .before .climb .ensures) (c .before .before .before .is-clear .ensures) (c .number4 .result) (c .number4 .ensures), twin-mate (c .before .before .before .before .before .before .before .before .before .before .before .before .before .before .before .before .before .before .before .args .actions .now) (c .before .before .before .before .before .before .before .before .before .before .before .before .before .before .before .before .before .before .before .args .scopes .now) (c .before .before .before .before .before .before .before .before .before .before .before .before .before .before .before .before .before .before .before .args .sides .now) (c .before .before .before .before .before .before .before .before .before .before .before .before .before .before .before .before .before .before .before .args .ends .now) _ _ (c .before .before .before .before .before .before .before .before .before .before .before .before .before .before .before .before .before .before .before .args .nodes) (c .before .before .before .before .before .before .before .before .before .seek .result) (c .before .before .before .before .before .before .before .before .before .before .before .before .before .before .before .before .search .i) (c .before .before .before .before .before .before .loop .j) (c .before .before .before .before .before .before .loop .side) (c .before .before .before .before .climb .result) (c .before .before .before .is-clear .result) (rows-few (c .before .before .before .before .before .before .before .before .before .before .before .before .before .before .before .before .before .before .before .pre .0 .0) (c .before .before .before .before .before .before .before .before .before .before .before .before .before .before .before .before .before .before .before .args .nodes) (c .before .before .before .before .before .before .before .before .before .before .before .before .before .before .before .before .before .before .before .args .actions .now) (c .before .before .before .before .before .before .before .before .before .before .before .before .before .before .before .before .before .before .before .args .scopes .now) (c .before .before .before .before .before .before .before .before .before .before .before .before .before .before .before .before .before .before .before .args .sides .now) (c .before .before .before .before .before .before .before .before .before .before .before .before .before .before .before .before .before .before .before .args .ends .now) (c .before .before .before .before .before .before .before .before .before .before .before .before .before .before .before .before .before .before .before .pre .0 .1)) (rows-scopes (c .before .before .before .before .before .before .before .before .before .before .before .before .before .before .before .before .before .before .before .pre .0 .0) (c .before .before .before .before .before .before .before .before .before .before .before .before .before .before .before .before .before .before .before .args .nodes) (c .before .before .before .before .before .before .before .before .before .before .before .before .before .before .before .before .before .before .before .args .actions .now) (c .before .before .before .before .before .before .before .before .before .before .before .before .before .before .before .before .before .before .before .args .scopes .now) (c .before .before .before .before .before .before .before .before .before .before .before .before .before .before .before .before .before .before .before .args .sides .now) (c .before .before .before .before .before .before .before .before .before .before .before .before .before .before .before .before .before .before .before .args .ends .now) (c .before .before .before .before .before .before .before .before .before .before .before .before .before .before .before .before .before .before .before .pre .0 .1)) (c .before .before .before .before .before .before .before .before .before .before .before .before .before .before .before .search-test .taken, c .before .before .before .before .before .before .before .before .before .before .before .before .before .if1 .left) (c .before .before .before .before .before .before .before .before .before .before .before .before .before .before .before .before .before .before .before .pre .1) (c .before .before .before .before .before .before .loop .inv .3 (c .before .before .before .before .before .loop-test .taken)) (c .before .before .before .before .before .before .loop .inv .2) (c .before .before .before .before .climb .ensures) (c .before .before .before .is-clear .ensures) (c .number4 .result) (c .number4 .ensures))
 
 add-i-2 : tie.Need-add-i-2 Inv-loop μ-loop Inv-search μ-search
 add-i-2 c = search needs
@@ -112,33 +95,33 @@ search-less-2 : tie.Need-search-less-2 Inv-loop μ-loop Inv-search μ-search
 search-less-2 c = search needs
 
 search-again-2 : tie.Need-search-again-2 Inv-loop μ-loop Inv-search μ-search
-search-again-2 c = (c .before .before .before .before .before .before .before .before .before .before .before .before .search .inv .0, reached-row (c .before .before .before .before .before .before .before .before .before .before .before .before .before .before .before .args .actions .now) (c .before .before .before .before .before .before .before .before .before .before .before .before .before .before .before .args .scopes .now) (c .before .before .before .before .before .before .before .before .before .before .before .before .before .before .before .args .sides .now) (c .before .before .before .before .before .before .before .before .before .before .before .before .before .before .before .args .ends .now) (c .before .before .before .before .before .before .before .before .before .before .before .before .before .before .before .args .nodes) (c .before .before .before .before .before .before .before .before .before .before .before .before .before .before .number .result) (c .before .before .before .before .before .before .before .before .before .before .before .before .before .number2 .result) (c .before .before .before .before .before .before .before .before .before .before .before .before .search .i) (c .before .loop .j) (reached-pass (c .before .before .before .before .before .before .before .before .before .before .before .before .before .before .before .args .actions .now) (c .before .before .before .before .before .before .before .before .before .before .before .before .before .before .before .args .scopes .now) (c .before .before .before .before .before .before .before .before .before .before .before .before .before .before .before .args .sides .now) (c .before .before .before .before .before .before .before .before .before .before .before .before .before .before .before .args .ends .now) (c .before .before .before .before .before .before .before .before .before .before .before .before .before .before .before .args .nodes) (c .before .before .before .before .before .before .before .before .before .before .before .before .before .before .number .result) (c .before .before .before .before .before .before .before .before .before .before .before .before .before .number2 .result) (c .before .before .before .before .before .before .before .before .before .before .before .before .search .i) (c .before .before .later .result) (c .before .loop .j) (reached-pairs (c .before .before .before .before .before .before .before .before .before .before .before .before .before .before .before .args .actions .now) (c .before .before .before .before .before .before .before .before .before .before .before .before .before .before .before .args .scopes .now) (c .before .before .before .before .before .before .before .before .before .before .before .before .before .before .before .args .sides .now) (c .before .before .before .before .before .before .before .before .before .before .before .before .before .before .before .args .ends .now) (c .before .before .before .before .before .before .before .before .before .before .before .before .before .before .before .args .nodes) (c .before .before .before .before .before .before .before .before .before .before .before .before .before .before .number .result) (c .before .before .before .before .before .before .before .before .before .before .before .before .before .number2 .result) (c .before .before .before .before .before .before .before .before .before .before .before .before .search .i) (c .before .before .before .before .before .before .before .before .before .before .before .before .search .from) (c .before .before .later .result) (c .before .before .before .before .before .before .before .before .before .before .before .before .search .inv .1) (λ x. true≢false (sym (c .before .before .before .before .before .before .before .is-alone .ensures .1 x) ∙ c .before .before .before .before .before .before .if2 .left)) (c .before .before .later .ensures .0) (c .before .before .later .ensures .1) (c .before .before .later .ensures .2)) (omega (arith, c .before .before .later .ensures .1)) (c .before .loop .inv .0) (c .before .loop .inv .1)) (omega (arith, c .before .before .later .ensures .1, c .before .loop .inv .0)) (c .loop-test .left))
+search-again-2 c = (c .before .before .before .before .before .before .before .before .before .before .before .search .inv .0, reached-row (c .before .before .before .before .before .before .before .before .before .before .before .before .before .before .args .actions .now) (c .before .before .before .before .before .before .before .before .before .before .before .before .before .before .args .scopes .now) (c .before .before .before .before .before .before .before .before .before .before .before .before .before .before .args .sides .now) (c .before .before .before .before .before .before .before .before .before .before .before .before .before .before .args .ends .now) (c .before .before .before .before .before .before .before .before .before .before .before .before .before .before .args .nodes) (c .before .before .before .before .before .before .before .before .before .before .before .before .before .number .result) (c .before .before .before .before .before .before .before .before .before .before .before .before .number2 .result) (c .before .before .before .before .before .before .before .before .before .before .before .search .i) (c .before .loop .j) (reached-pass (c .before .before .before .before .before .before .before .before .before .before .before .before .before .before .args .actions .now) (c .before .before .before .before .before .before .before .before .before .before .before .before .before .before .args .scopes .now) (c .before .before .before .before .before .before .before .before .before .before .before .before .before .before .args .sides .now) (c .before .before .before .before .before .before .before .before .before .before .before .before .before .before .args .ends .now) (c .before .before .before .before .before .before .before .before .before .before .before .before .before .before .args .nodes) (c .before .before .before .before .before .before .before .before .before .before .before .before .before .number .result) (c .before .before .before .before .before .before .before .before .before .before .before .before .number2 .result) (c .before .before .before .before .before .before .before .before .before .before .before .search .i) (c .before .before .before .before .seek .result) (c .before .loop .j) (reached-pairs (c .before .before .before .before .before .before .before .before .before .before .before .before .before .before .args .actions .now) (c .before .before .before .before .before .before .before .before .before .before .before .before .before .before .args .scopes .now) (c .before .before .before .before .before .before .before .before .before .before .before .before .before .before .args .sides .now) (c .before .before .before .before .before .before .before .before .before .before .before .before .before .before .args .ends .now) (c .before .before .before .before .before .before .before .before .before .before .before .before .before .before .args .nodes) (c .before .before .before .before .before .before .before .before .before .before .before .before .before .number .result) (c .before .before .before .before .before .before .before .before .before .before .before .before .number2 .result) (c .before .before .before .before .before .before .before .before .before .before .before .search .i) (c .before .before .before .before .before .before .before .before .before .before .before .search .from) (c .before .before .before .before .seek .result) (c .before .before .before .before .before .before .before .before .before .before .before .search .inv .1) (λ x. true≢false (sym (c .before .before .before .before .before .before .is-alone .ensures .1 x) ∙ c .before .before .before .before .before .if2 .left)) (c .before .before .before .before .seek .ensures)) (c .before .before .before .before .seek .ensures .past) (c .before .loop .inv .0) (c .before .loop .inv .1)) (omega (arith, c .before .before .before .before .seek .ensures .past, c .before .loop .inv .0)) (c .loop-test .left))
 
 abbrev End : tie.Left-search Inv-loop μ-loop Inv-search μ-search → Type 0
 End c = let a = c .before .before .before .before .args in Ended (a .actions .now) (a .scopes .now) (a .sides .now) (a .ends .now) (a .nodes) (c .before .before .before .number .result) (c .before .before .number2 .result) (c .before .search .i) (c .before .search .from) (c .search-test .j) (c .search-test .label)
 
 -- the three ways out of the search: past all nodes, at a prefix that steps alone, at a pair
 ended : (c : tie.Left-search Inv-loop μ-loop Inv-search μ-search) → End c
-ended c = let a = c .before .before .before .before .args in let l = c .before .search in
+ended c = let a = c .before .before .before .before .args in let r = c .before .before .before .before .pre in let l = c .before .search in
     ⊎-elim (λ w. inr (w .0 .left, l .inv .1))
     (⊎-elim
     (λ w. let o = w .4 .ensures .0 (w .5 .taken) in ended-alone (a .actions .now) (a .scopes .now) (a .sides .now) (a .ends .now) (a .nodes) (c .before .before .before .number .result) (c .before .before .number2 .result) (l .i) (l .from) _ _ (w .0 .taken) (w .6) (o .0) (w .2 .left) (o .1) (l .inv .1) (w .7))
-    (λ w. rw (w .20) (ended-joined (a .actions .now) (a .scopes .now) (a .sides .now) (a .ends .now) (a .nodes) (c .before .before .before .number .result) (c .before .before .number2 .result) (l .i) (l .from) (w .10 .j) _ (w .0 .taken) (w .11 .taken)
-    (partner (a .actions .now) (a .scopes .now) (a .sides .now) (a .ends .now) (a .nodes) (w .9 .result) (l .i) (w .10 .j) (w .10 .side) (w .6 .result) (w .15 .result) (w .6 .ensures) (w .15 .ensures) (w .17 .result) (w .18 .result) (w .10 .inv .2) (w .17 .ensures) (w .18 .ensures) (w .16 .taken) (w .19 .taken) (omega (arith, w .9 .ensures .1, w .10 .inv .0)))
-    (reached-pass (a .actions .now) (a .scopes .now) (a .sides .now) (a .ends .now) (a .nodes) (c .before .before .before .number .result) (c .before .before .number2 .result) (l .i) (w .9 .result) (w .10 .j) (reached-pairs (a .actions .now) (a .scopes .now) (a .sides .now) (a .ends .now) (a .nodes) (c .before .before .before .number .result) (c .before .before .number2 .result) (l .i) (l .from) (w .9 .result) (l .inv .1) (λ x. true≢false (sym (w .4 .ensures .1 x) ∙ w .5 .left)) (w .9 .ensures .0) (w .9 .ensures .1) (w .9 .ensures .2)) (omega (arith, w .9 .ensures .1)) (w .10 .inv .0) (w .10 .inv .1)) (w .21 ∙ l .inv .0))))
+    (λ w. let W = r .0 .1 in rw (w .14) (ended-joined (a .actions .now) (a .scopes .now) (a .sides .now) (a .ends .now) (a .nodes) (c .before .before .before .number .result) (c .before .before .number2 .result) (l .i) (l .from) (w .9 .j) _ (w .0 .taken) (w .10 .taken)
+    (partner (a .actions .now) (a .scopes .now) (a .sides .now) (a .ends .now) _ _ (a .nodes) (w .6 .result) (l .i) (w .9 .j) (w .9 .side) (w .11 .result) (w .12 .result) (rows-few _ _ _ _ _ _ W) (rows-scopes _ _ _ _ _ _ W) (w .0 .taken, w .2 .left) (r .1) (w .9 .inv .3 (w .10 .taken)) (w .9 .inv .2) (w .11 .ensures) (w .12 .ensures) (w .13 .taken) (omega (arith, w .6 .ensures .past, w .9 .inv .0)))
+    (reached-pass (a .actions .now) (a .scopes .now) (a .sides .now) (a .ends .now) (a .nodes) (c .before .before .before .number .result) (c .before .before .number2 .result) (l .i) (w .6 .result) (w .9 .j) (reached-pairs (a .actions .now) (a .scopes .now) (a .sides .now) (a .ends .now) (a .nodes) (c .before .before .before .number .result) (c .before .before .number2 .result) (l .i) (l .from) (w .6 .result) (l .inv .1) (λ x. true≢false (sym (w .4 .ensures .1 x) ∙ w .5 .left)) (w .6 .ensures)) (w .6 .ensures .past) (w .9 .inv .0) (w .9 .inv .1)) (w .15 ∙ l .inv .0))))
     (c .search-test .came)
 
-cast-t41 : tie.Need-cast-t41 Inv-loop μ-loop Inv-search μ-search
-cast-t41 c = record { fits = omega (arith, c .if5 .taken, rows-few (c .before .before .before .before .before .pre .0) (c .before .before .before .before .before .args .nodes) (c .before .before .before .before .before .args .actions .now) (c .before .before .before .before .before .args .scopes .now) (c .before .before .before .before .before .args .sides .now) (c .before .before .before .before .before .args .ends .now) (c .before .before .before .before .before .pre .1)) }
+cast-t34 : tie.Need-cast-t34 Inv-loop μ-loop Inv-search μ-search
+cast-t34 c = record { fits = omega (arith, c .if4 .taken, rows-few (c .before .before .before .before .before .pre .0 .0) (c .before .before .before .before .before .args .nodes) (c .before .before .before .before .before .args .actions .now) (c .before .before .before .before .before .args .scopes .now) (c .before .before .before .before .before .args .sides .now) (c .before .before .before .before .before .args .ends .now) (c .before .before .before .before .before .pre .0 .1)) }
 
-cast-t42 : tie.Need-cast-t42 Inv-loop μ-loop Inv-search μ-search
-cast-t42 c = ⊎-elim (λ e. record { fits = omega (arith, e .1, rows-few (c .before .before .before .before .before .before .pre .0) (c .before .before .before .before .before .before .args .nodes) (c .before .before .before .before .before .before .args .actions .now) (c .before .before .before .before .before .before .args .scopes .now) (c .before .before .before .before .before .before .args .sides .now) (c .before .before .before .before .before .before .args .ends .now) (c .before .before .before .before .before .before .pre .1)) }) (λ e. absurd (omega (arith, c .before .if5 .taken))) (ended (c .before .before))
+cast-t35 : tie.Need-cast-t35 Inv-loop μ-loop Inv-search μ-search
+cast-t35 c = ⊎-elim (λ e. record { fits = omega (arith, e .1, rows-few (c .before .before .before .before .before .before .pre .0 .0) (c .before .before .before .before .before .before .args .nodes) (c .before .before .before .before .before .before .args .actions .now) (c .before .before .before .before .before .before .args .scopes .now) (c .before .before .before .before .before .before .args .sides .now) (c .before .before .before .before .before .before .args .ends .now) (c .before .before .before .before .before .before .pre .0 .1)) }) (λ e. absurd (omega (arith, c .before .if4 .taken))) (ended (c .before .before))
 
 returns : tie.Need-returns Inv-loop μ-loop Inv-search μ-search
-returns c = λ t W. ⊎-elim (λ e. reached-found t (c .before .before .before .before .before .before .args .nodes) (c .before .before .before .before .before .before .args .actions .now) (c .before .before .before .before .before .before .args .scopes .now) (c .before .before .before .before .before .before .args .sides .now) (c .before .before .before .before .before .before .args .ends .now) W (c .before .before .before .before .before .before .args .p .0) (c .before .before .before .before .before .before .args .q .0) _ _ _ (rw (c .before .before .before .before .before .number .ensures, c .before .before .before .before .number2 .ensures) at (e .3)) (e .2) (e .4)) (λ e. absurd (omega (arith, c .before .if5 .taken))) (ended (c .before .before))
+returns c = λ t W. ⊎-elim (λ e. reached-found t (c .before .before .before .before .before .before .args .nodes) (c .before .before .before .before .before .before .args .actions .now) (c .before .before .before .before .before .before .args .scopes .now) (c .before .before .before .before .before .before .args .sides .now) (c .before .before .before .before .before .before .args .ends .now) W (c .before .before .before .before .before .before .args .p .0) (c .before .before .before .before .before .before .args .q .0) _ _ _ (rw (c .before .before .before .before .before .number .ensures, c .before .before .before .before .number2 .ensures) at (e .3)) (e .2) (e .4)) (λ e. absurd (omega (arith, c .before .if4 .taken))) (ended (c .before .before))
 
 returns-2 : tie.Need-returns-2 Inv-loop μ-loop Inv-search μ-search
-returns-2 c = λ t W. ⊎-elim (λ e. absurd (omega (arith, e .0, c .if5 .left))) (λ e. reached-none t (c .before .before .before .before .before .args .nodes) (c .before .before .before .before .before .args .actions .now) (c .before .before .before .before .before .args .scopes .now) (c .before .before .before .before .before .args .sides .now) (c .before .before .before .before .before .args .ends .now) W (c .before .before .before .before .before .args .p .0) (c .before .before .before .before .before .args .q .0) _ _ (rw (c .before .before .before .before .number .ensures, c .before .before .before .number2 .ensures) at (e .1)) (e .0)) (ended (c .before))
+returns-2 c = λ t W. ⊎-elim (λ e. absurd (omega (arith, e .0, c .if4 .left))) (λ e. reached-none t (c .before .before .before .before .before .args .nodes) (c .before .before .before .before .before .args .actions .now) (c .before .before .before .before .before .args .scopes .now) (c .before .before .before .before .before .args .sides .now) (c .before .before .before .before .before .args .ends .now) W (c .before .before .before .before .before .args .p .0) (c .before .before .before .before .before .args .q .0) _ _ (rw (c .before .before .before .before .number .ensures, c .before .before .before .number2 .ensures) at (e .1)) (e .0)) (ended (c .before))
 
 pub next-step-spec : {M : Type 1} → statement M
 next-step-spec =
@@ -158,28 +141,22 @@ next-step-spec =
     mul-is-alone
     element-copy-out-is-alone
     is-alone-requires
-    complement-requires
+    seek-requires
     mul-number
     element-copy-out-number
     number-requires-3
-    add-later
-    later-requires
     loop-holds
-    element-copy-out-agree
-    mul-agree
-    element-copy-out-agree-2
-    mul-agree-2
-    element-copy-out-agree-3
-    agree-requires
     climb-requires
     is-clear-requires
-    add-j
+    mul-number-2
+    element-copy-out-number-2
+    number-requires-4
     loop-less
     loop-again
     add-i-2
     search-less-2
     search-again-2
-    cast-t41
-    cast-t42
+    cast-t34
+    cast-t35
     returns
     returns-2)

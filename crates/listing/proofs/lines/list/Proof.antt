@@ -1,5 +1,6 @@
--- `list` is safe and ends: the rows that the index has filled are those of the record.
+-- `list` is safe and ends: the rows that are filled and linked are those of the record.
 use Rattle.search.proofs.Answers.{index-filled}
+use Rattle.search.proofs.Reached.{rows-few, rows-scopes}
 use borrow.Author.Needs.{needs}
 use Rattle.listing.proofs.lines.list.Statement.{statement}
 use Rattle.listing.proofs.lines.list.Tie as tie
@@ -19,11 +20,14 @@ list-refused-requires c κs = search needs
 enum-known-n : tie.Need-enum-known-n
 enum-known-n c = search needs
 
+link-requires : tie.Need-link-requires
+link-requires c κs = let f = index-filled (c .before .before .before .before .before .before .before .before .before .before .before .before .before .before .args .bytes .now) _ _ _ _ (c .before .before .before .before .before .before .before .index .result) (c .before .before .before .before .before .before .before .index .ensures) _ (c .before .before .before .before .before .n .given .1) in ((rows-few (f .0) _ _ _ _ _ (f .2), rows-scopes (f .0) _ _ _ _ _ (f .2)), (f .2 .action-room, f .2 .scope-room, search needs, search needs))
+
 put-counts-requires : tie.Need-put-counts-requires
 put-counts-requires c κs = search needs
 
 put-steps-requires : tie.Need-put-steps-requires
-put-steps-requires c κs = let f = index-filled (c .before .before .before .before .before .before .before .before .before .before .before .before .before .before .before .before .before .before .before .args .bytes .now) _ _ _ _ (c .before .before .before .before .before .before .before .before .before .before .before .before .index .result) (c .before .before .before .before .before .before .before .before .before .before .before .before .index .ensures) _ (c .before .before .before .before .before .before .before .before .before .before .n .given .1) in ((c .before .before .before .before .before .before .before .put-counts .ensures .0, c .before .before .before .before .before .before .before .put-counts .ensures .1), (f .0, f .2))
+put-steps-requires c κs = let f = index-filled (c .before .before .before .before .before .before .before .before .before .before .before .before .before .before .before .before .before .before .before .before .before .before .before .before .before .before .args .bytes .now) _ _ _ _ (c .before .before .before .before .before .before .before .before .before .before .before .before .before .before .before .before .before .before .before .index .result) (c .before .before .before .before .before .before .before .before .before .before .before .before .before .before .before .before .before .before .before .index .ensures) _ (c .before .before .before .before .before .before .before .before .before .before .before .before .before .before .before .before .before .n .given .1) in ((c .before .before .before .before .before .before .before .before .before .put-counts .ensures .0, c .before .before .before .before .before .before .before .before .before .put-counts .ensures .1), ((f .0, f .2), c .before .before .before .before .before .before .before .before .before .before .before .link .ensures))
 
 put-allowed-requires : tie.Need-put-allowed-requires
 put-allowed-requires c κs = search needs
@@ -46,6 +50,7 @@ list-spec =
     enum-known-c
     list-refused-requires
     enum-known-n
+    link-requires
     put-counts-requires
     put-steps-requires
     put-allowed-requires

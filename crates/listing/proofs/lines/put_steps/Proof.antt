@@ -7,10 +7,10 @@ use Rattle.listing.proofs.lines.put_steps.Statement.{statement}
 use Rattle.listing.proofs.lines.put_steps.Tie as tie
 
 abbrev Inv-loop : tie.InvT-loop
-Inv-loop space₀ n actions scopes sides ends nodes at₀ p₀ q₀ left₀ t15 space at p q left = (at ≤ 4096) × (length space ≡ 4096)
+Inv-loop space₀ n actions scopes sides ends twins partners nodes at₀ p₀ q₀ left₀ t15 space at p q left = (at ≤ 4096) × (length space ≡ 4096)
 
 abbrev μ-loop : tie.MeasureT-loop
-μ-loop space₀ n actions scopes sides ends nodes at₀ p₀ q₀ left₀ t15 space at p q left = left
+μ-loop space₀ n actions scopes sides ends twins partners nodes at₀ p₀ q₀ left₀ t15 space at p q left = left
 
 loop-holds : tie.Need-loop-holds Inv-loop μ-loop
 loop-holds c = search needs

@@ -1,0 +1,3 @@
+-- What the links between prefixes promise.
+pub mod Links
+pub mod Classes
