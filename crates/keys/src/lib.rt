@@ -63,7 +63,7 @@ fn scan(bytes: &[u8], marks: &mut [u8; BYTES]) -> usize
     while at < bytes.len() {
         let kind = reader::wide(bytes[at]);
         n += mark(marks, key_at(bytes, at));
-        at += 1 + reader::wide(body[kind]);
+        at += 1 + body[kind];
     }
     n
 }
@@ -126,7 +126,7 @@ fn wipe(bytes: &mut [u8], marks: &mut [u8; BYTES]) -> usize
         let kind = reader::wide(bytes[at]);
         n += mark(marks, key_at(bytes, at));
         clear_at(bytes, at);
-        at += 1 + reader::wide(body[kind]);
+        at += 1 + body[kind];
     }
     n
 }

@@ -77,8 +77,8 @@ fn mark_below(bytes: &[u8], key: u16, marks: &mut [u8; BYTES]) -> Passed
         let here = keys::key_at(bytes, at);
         n += keys::mark(marks, to_mark(due, here, key));
         met = met_by(met, here, key);
-        due = due_after(due, here, key, reader::wide(children[kind]));
-        at += 1 + reader::wide(body[kind]);
+        due = due_after(due, here, key, children[kind]);
+        at += 1 + body[kind];
     }
     Passed { met: met, below: n }
 }
