@@ -32,9 +32,6 @@ pub record Faithful (f : ℕ → ℕ) (ks : List ℕ) : Type 0 where
   pub keys : (k : ℕ) → In k ks → (0 < k) × (0 < f k)
   pub apart : (j k : ℕ) → In j ks → In k ks → f j ≡ f k → j ≡ k
 
-fewer : {f : ℕ → ℕ} {k : ℕ} {ks : List ℕ} → Faithful f (k ∷ ks) → Faithful f ks
-fewer p = record { keys = λ k i. p .keys k (inr i); apart = λ j k i q. p .apart j k (inr i) (inr q) }
-
 only-none : (m : ℕ) (l : List Entry) → ¬ In m (key-column l) → only m l ≡ []
 unfolding key-column only
 only-none m [] f = refl

@@ -33,10 +33,6 @@ if-yes (yes a) (no b) n x y = refl
 if-yes (yes a) (yes b) n x y = absurd (y b)
 if-yes (no a) e n x y = absurd (a x)
 
-if-not : {A B : Type 0} (d : Dec A) (e : Dec B) (n : ℕ) → ¬ A → one-if d e n ≡ n
-if-not (yes a) e n x = absurd (x a)
-if-not (no a) e n x = refl
-
 if-out : {A B : Type 0} (d : Dec A) (e : Dec B) (n : ℕ) → B → one-if d e n ≡ n
 if-out (yes a) (no b) n x = absurd (b x)
 if-out (yes a) (yes b) n x = refl

@@ -4,7 +4,6 @@ pub mod Basic
 pub mod Loop
 pub mod Undo
 pub mod Keys
-pub mod Forward
 pub mod Clear
 pub mod Place
 pub mod Decide

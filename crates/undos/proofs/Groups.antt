@@ -181,10 +181,6 @@ module _ (rs : List Last) (k : ℕ) (e : Last) where
   met-over (half h g) p q r i = absurd (r refl)
   met-over {c = c} {x = x} (ready w g) p q r i = never {c = c} {x = x ++ (e ∷ [])} (λ y v. omega (arith, ready-count c x w, ready-count c ((x ++ (e ∷ [])) ++ y) v, length-append (x ++ (e ∷ [])) y, length-append x (e ∷ [])))
 
--- at the end of a loop
-pub ends-at : (i n : ℕ) → i ≤ n → (i < n → ⊥) → i ≡ n
-ends-at i n h g = omega arith
-
 pub marks-set : (x s : List ℕ) (i n : ℕ) → i ≡ n → length s ≡ 8192 → ((k : Key) → k < 65536 → (member s k ≡ true) ↔ In k (take i x)) → Marks (take n x) s
 marks-set x s i n e w f = rw (← e) (record { whole = w; marked = f })
 

@@ -10,10 +10,8 @@ use reader::node_at;
 use reader::wide;
 use survey::pass::key_of;
 ghost use mathlib.Core.Path.{_≡_};
-ghost use mathlib.Core.Logic.{_≢_};
-ghost use mathlib.Core.List.{List, [], _++_};
-ghost use Prim.Native.Nat.{ℕ, _+_, _≤_, _<_};
-ghost use lib.ListN.{length, getD, take};
+ghost use Prim.Native.Nat.{_+_, _≤_, _<_};
+ghost use lib.ListN.{length, getD};
 ghost use Rattle.format.specs.Limits.{node-limit};
 ghost use Rattle.undos.specs.Gather.{lent, rows, Enters, OverPrefix, over-two, Sized, Gathers, closed};
 
