@@ -7,7 +7,7 @@ use native.Mathlib.Omega.{arith}
 use lib.ListN.{length, length-append}
 use Rattle.ccsk.specs.Term.{Label, Co}
 use Rattle.ccsk.proofs.Basic.{co-sym}
-use Rattle.ccsk.proofs.Decide.{co?}
+use Rattle.ccsk.specs.Decide.{co?}
 use Rattle.moves.specs.Move.{Move, still, step, stuck, joinedIf, overParallel}
 use Rattle.lasts.specs.Last.{Last, Scopes, slot, scope-of}
 
