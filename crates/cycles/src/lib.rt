@@ -5,7 +5,8 @@ ghost use mathlib.Core.Logic.{_↔_};
 ghost use mathlib.Core.Bool.{true};
 ghost use Prim.Native.Nat.{_+_, _<_, _≤_};
 ghost use lib.ListN.{length, getD, replicate};
-ghost use Rattle.cycles.specs.Graph.{Below, Columns, Acyclic};
+ghost use Rattle.causes.specs.Columns.{Below};
+ghost use Rattle.cycles.specs.Graph.{Columns, Acyclic};
 ghost use Rattle.cycles.specs.Queue.{Queued};
 ghost use Rattle.cycles.specs.Counters.{Room, Counted, Released, Ready};
 

@@ -6,8 +6,9 @@ ghost use mathlib.Core.Logic.{_↔_};
 ghost use Prim.Native.Nat.{_+_, _<_};
 ghost use lib.ListN.{length};
 ghost use Rattle.ccsk.specs.Term.{Co};
+ghost use Rattle.causes.specs.Columns.{Below};
 ghost use Rattle.pairs.specs.Cause.{Placed, EachPlaced, CauseAt, CauseBelow};
-ghost use Rattle.pairs.specs.Answer.{Zero, Below, Entered, Index, Climbed};
+ghost use Rattle.pairs.specs.Answer.{Zero, Entered, Index, Climbed};
 
 // The conditions 4, 5 and 6, and the number above them for nothing wrong.
 pub const NO_COMPLEMENT: u8 = 4;

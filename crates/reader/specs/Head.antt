@@ -1,19 +1,18 @@
 -- One node without its children, as `node_at` finds it, against the reading of a record.
 use mathlib.Core.Path.{_≡_}
-use mathlib.Core.List.{List, [], _∷_}
+use mathlib.Core.List.{List}
 use Prim.Native.Nat.{ℕ, _≤_, _+_}
 use lib.ListN.{length, drop, getD}
 use Rattle.ccsk.specs.Term.{nil, pre, cho, par, res}
+pub use Rattle.format.specs.Kinds.{childCount}
+use Rattle.format.specs.Kinds.{bodyLength}
 use Rattle.format.specs.Read.{Reading, refused, term, Kind, nil-kind, prefix-kind, choice-kind, parallel-kind, restriction-kind, no-kind, kindOf, keyOf, node, oneChild, twoChildren}
 use Rattle.reader.specs.declared.Head.{Head}
 use Rattle.reader.specs.declared.Head.the-variants.{Bad, Node}
 
--- how many bytes a body has, and how many children a node, by kind (01, The record, the table of kinds)
+-- how many bytes a body has, by kind
 abbrev pub body : ℕ → ℕ
-body kind = getD (0 ∷ 3 ∷ 0 ∷ 0 ∷ 1 ∷ []) kind 0
-
-abbrev pub childCount : ℕ → ℕ
-childCount kind = getD (0 ∷ 1 ∷ 2 ∷ 2 ∷ 1 ∷ []) kind 0
+body = bodyLength
 
 -- A good node with its byte of kind at the place `at` of s: what is made of its children. r reads a child, s′ are the bytes after the body.
 unfoldable pub under : Kind → List ℕ → ℕ → (ℕ → List ℕ → Reading) → ℕ → List ℕ → Reading
