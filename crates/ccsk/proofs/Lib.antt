@@ -9,3 +9,4 @@ pub mod Place
 pub mod Decide
 pub mod UndoDec
 pub mod ForwardDec
+pub mod Examples
