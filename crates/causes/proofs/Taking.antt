@@ -109,11 +109,11 @@ stuck ks us o f k i j free = out (peak (Linked ks us) (linked? ks us) (apart o k
         r .free (n .0) (in-apart o ks (n .0) .1 (linked-low ks us (r .key) (n .0) (n .1), n .2)) (n .1)
 
 -- Laws of the counters.
-when-yes : {A : Type 0} (d : Dec A) (n : ℕ) → A → one-when d n ≡ suc n
+pub when-yes : {A : Type 0} (d : Dec A) (n : ℕ) → A → one-when d n ≡ suc n
 when-yes (yes a) n x = refl
 when-yes (no a) n x = absurd (a x)
 
-when-no : {A : Type 0} (d : Dec A) (n : ℕ) → ¬ A → one-when d n ≡ n
+pub when-no : {A : Type 0} (d : Dec A) (n : ℕ) → ¬ A → one-when d n ≡ n
 when-no (yes a) n x = absurd (x a)
 when-no (no a) n x = refl
 
