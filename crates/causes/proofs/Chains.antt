@@ -103,9 +103,6 @@ has-count m t i = some (labels m t) (λ e. labels-fresh m t e i)
     some [] f = absurd (f refl)
     some (x ∷ l) f = omega arith
 
-count-same : (m a : ℕ) (t : Term) → count m (pre a m t) ≡ suc (count m t)
-count-same m a t = ap length (labels-same m a m t refl)
-
 count-pre : (m a k : ℕ) (t : Term) → count m t ≤ count m (pre a k t)
 count-pre m a k t = pick (ℕ-discrete m k)
   where

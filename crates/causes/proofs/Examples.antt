@@ -7,7 +7,7 @@ use native.Mathlib.Omega.{arith}
 use Rattle.ccsk.specs.Term.{nil, pre, cho, par, res, Co}
 use Rattle.sound.specs.Sound.{one, more}
 use native.Mathlib.Decide.{ℕ-discrete, decLe}
-use Rattle.ccsk.proofs.Decide.{on?, channel?}
+use Rattle.ccsk.specs.Decide.{on?, channel?}
 use Rattle.causes.specs.Entry.{marked, entries, under, all, only}
 use Rattle.causes.specs.Tests.{EachKey, AtMostTwo, Complements, Beside, Enclosed, Acyclic, holds, waits, chosen}
 

@@ -1,12 +1,10 @@
 -- The folds for the conditions 1 and 2 tell whether they hold.
 use mathlib.Core.Path.{_≡_, refl}
 use mathlib.Core.Logic.{_⊎_, inl, inr, ⊎-elim, _↔_}
-use mathlib.Core.List.{List, [], _∷_, _++_}
 use mathlib.Core.Bool.{Bool, true, false, not, _&&_, _||_, false≢true}
-use Prim.Native.Nat.{ℕ, zero, suc, _+_}
-use Rattle.ccsk.specs.Term.{Term, nil, pre, cho, par, res, Std, size}
+use Prim.Native.Nat.{zero, suc}
+use Rattle.ccsk.specs.Term.{Term, nil, pre, cho, par, res, Std}
 use Rattle.sound.specs.Sound.{Waits, Chosen}
-use Rattle.causes.specs.Entry.{Entry, Scopes, under, marked, entries}
 use Rattle.causes.specs.Tests.{holds, waits, chosen}
 
 -- The test b tells A from B: true means A, false means B.
@@ -75,21 +73,3 @@ waits-by-fold t = tells-iff (waits-tells t)
 -- condition 2
 pub chosen-by-fold : (t : Term) → Chosen t ↔ (chosen t ≡ true)
 chosen-by-fold t = tells-iff (chosen-tells t)
-
--- a term holds a key exactly if it has an entry
-abbrev pub some : List Entry → Bool
-some [] = false
-some (e ∷ l) = true
-
-some-append : (x y : List Entry) → some (x ++ y) ≡ some x || some y
-some-append [] y = refl
-some-append (e ∷ x) y = refl
-
-pub holds-entries : (n row u : ℕ) (s : Scopes) (t : Term) → holds t ≡ some (entries n row u s t)
-unfolding holds entries
-holds-entries n row u s nil = refl
-holds-entries n row u s (pre a zero t) = holds-entries (suc n) row u s t
-holds-entries n row u s (pre a (suc k) t) = refl
-holds-entries n row u s (cho t r) = rw (some-append (entries (suc n) row u s t) (entries (suc n + size t) (row + marked t) u s r), holds-entries (suc n) row u s t, holds-entries (suc n + size t) (row + marked t) u s r)
-holds-entries n row u s (par t r) = rw (some-append (entries (suc n) row u s t) (entries (suc n + size t) (row + marked t) u s r), holds-entries (suc n) row u s t, holds-entries (suc n + size t) (row + marked t) u s r)
-holds-entries n row u s (res a t) = holds-entries (suc n) row u (under a n s) t

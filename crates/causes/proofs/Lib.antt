@@ -8,5 +8,4 @@ pub mod Chains
 pub mod Verdict
 pub mod Taking
 pub mod Renaming
-pub mod Naming
 pub mod Examples

@@ -17,6 +17,7 @@ use Rattle.causes.specs.Links.{key-column, up-column, Linked, NoCycle, r
 use Rattle.causes.proofs.Entries.{only-same, only-other}
 use Rattle.causes.proofs.Chains.{chain-map}
 use Rattle.causes.proofs.Taking.{linked-low}
+use Rattle.causes.specs.Columns.{Faithful}
 
 -- the columns say as much about cycles as the entries
 leads-linked : (l : List Entry) (m n : ℕ) → Leads l m n ↔ Linked (key-column l) (up-column l) m n
@@ -26,14 +27,6 @@ leads-linked (e ∷ l) m n = let r = leads-linked l m n in (⊎-elim inl (λ i. 
 
 pub acyclic-columns : (l : List Entry) → Acyclic l ↔ NoCycle (key-column l) (up-column l)
 acyclic-columns l = (λ f m c. f m (chain-map (λ x y. leads-linked l x y .1) c), λ f m c. f m (chain-map (λ x y. leads-linked l x y .0) c))
-
--- New names f for the keys ks: keys stay keys, and different keys get different names.
-pub record Faithful (f : ℕ → ℕ) (ks : List ℕ) : Type 0 where
-  pub keys : (k : ℕ) → In k ks → (0 < k) × (0 < f k)
-  pub apart : (j k : ℕ) → In j ks → In k ks → f j ≡ f k → j ≡ k
-
-fewer : {f : ℕ → ℕ} {k : ℕ} {ks : List ℕ} → Faithful f (k ∷ ks) → Faithful f ks
-fewer p = record { keys = λ k i. p .keys k (inr i); apart = λ j k i q. p .apart j k (inr i) (inr q) }
 
 only-none : (m : ℕ) (l : List Entry) → ¬ In m (key-column l) → only m l ≡ []
 unfolding key-column only

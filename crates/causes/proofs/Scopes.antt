@@ -10,7 +10,7 @@ use lib.ListN.{length}
 use Rattle.ccsk.specs.Numbers.{In}
 use Rattle.ccsk.specs.Term.{Term, nil, pre, cho, par, res, Co, On, labels, size}
 use Rattle.ccsk.proofs.Basic.{co-sym}
-use Rattle.ccsk.proofs.Decide.{on?}
+use Rattle.ccsk.specs.Decide.{on?}
 use Rattle.sound.specs.Sound.{Twice, Paired, Hidden}
 use Rattle.causes.specs.Entry.{Entry, Scopes, nearest, under, open-scopes, marked, entries, all, only}
 use Rattle.causes.specs.Tests.{EachKey, AtMostTwo, Complements, Enclosed}

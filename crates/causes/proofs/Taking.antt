@@ -33,10 +33,6 @@ if-yes (yes a) (no b) n x y = refl
 if-yes (yes a) (yes b) n x y = absurd (y b)
 if-yes (no a) e n x y = absurd (a x)
 
-if-not : {A B : Type 0} (d : Dec A) (e : Dec B) (n : ℕ) → ¬ A → one-if d e n ≡ n
-if-not (yes a) e n x = absurd (x a)
-if-not (no a) e n x = refl
-
 if-out : {A B : Type 0} (d : Dec A) (e : Dec B) (n : ℕ) → B → one-if d e n ≡ n
 if-out (yes a) (no b) n x = absurd (b x)
 if-out (yes a) (yes b) n x = refl
@@ -113,11 +109,11 @@ stuck ks us o f k i j free = out (peak (Linked ks us) (linked? ks us) (apart o k
         r .free (n .0) (in-apart o ks (n .0) .1 (linked-low ks us (r .key) (n .0) (n .1), n .2)) (n .1)
 
 -- Laws of the counters.
-when-yes : {A : Type 0} (d : Dec A) (n : ℕ) → A → one-when d n ≡ suc n
+pub when-yes : {A : Type 0} (d : Dec A) (n : ℕ) → A → one-when d n ≡ suc n
 when-yes (yes a) n x = refl
 when-yes (no a) n x = absurd (a x)
 
-when-no : {A : Type 0} (d : Dec A) (n : ℕ) → ¬ A → one-when d n ≡ n
+pub when-no : {A : Type 0} (d : Dec A) (n : ℕ) → ¬ A → one-when d n ≡ n
 when-no (yes a) n x = absurd (x a)
 when-no (no a) n x = refl
 

@@ -4,7 +4,7 @@ use mathlib.Core.Bool.{Bool, true, false}
 use Prim.Native.Nat.{ℕ, zero, suc, _+_}
 use lib.Dec.{eqb}
 use Rattle.ccsk.specs.Term.{Term, Name, Label, Key, Node, nil, pre, cho, par, res, size}
-use Rattle.ccsk.proofs.Decide.{on?}
+use Rattle.ccsk.specs.Decide.{on?}
 
 -- A prefix that holds a key: the key, the action that it marks, its row in the list of all such prefixes, and the row that follows
 -- all below it; its scope, one more than the node number of the nearest restriction above that stops the action, 0 if there is none;

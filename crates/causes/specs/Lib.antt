@@ -2,3 +2,4 @@
 pub mod Entry
 pub mod Tests
 pub mod Links
+pub mod Columns

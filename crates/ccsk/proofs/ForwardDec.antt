@@ -12,7 +12,8 @@ use Rattle.ccsk.specs.Step.{Forward, Forward.top, Forward.prefix, Forwar
 use Rattle.ccsk.specs.Place.{shift, places, ForwardAt}
 use Rattle.ccsk.proofs.Basic.{has?, never}
 use Rattle.ccsk.proofs.Place.{Placed, alone, joined, step-placed, step-once, co-pos}
-use Rattle.ccsk.proofs.Decide.{both, three, isnt, same, std?, co?, on?}
+use Rattle.ccsk.specs.Decide.{both, co?, on?}
+use Rattle.ccsk.proofs.Decide.{three, isnt, same, std?}
 
 pub zero-one : {A : Type 0} → _≡_ {A = ℕ} 0 1 → A
 zero-one e = absurd (omega arith)

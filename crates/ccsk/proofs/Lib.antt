@@ -4,9 +4,9 @@ pub mod Basic
 pub mod Loop
 pub mod Undo
 pub mod Keys
-pub mod Forward
 pub mod Clear
 pub mod Place
 pub mod Decide
 pub mod UndoDec
 pub mod ForwardDec
+pub mod Examples

@@ -8,7 +8,8 @@ use Rattle.ccsk.specs.Term.{Term, nil, pre, cho, par, res, Std, Has, Co,
 use Rattle.ccsk.specs.Step.{Undo, Undo.top, Undo.prefix, Undo.choice₁, Undo.choice₂, Undo.par₁, Undo.par₂, Undo.synch, Undo.restrict, Undoable}
 use Rattle.ccsk.proofs.Basic.{has?, never}
 use Rattle.ccsk.proofs.Undo.{present, undo-once}
-use Rattle.ccsk.proofs.Decide.{std?, co?, on?}
+use Rattle.ccsk.specs.Decide.{co?, on?}
+use Rattle.ccsk.proofs.Decide.{std?}
 
 pub inv-nil : {m l : ℕ} {u : Term} → Undo nil m l u → ⊥
 inv-nil = elim [ ]

@@ -10,20 +10,23 @@ abbrev pub In : ℕ → List ℕ → Type 0
 In a [] = ⊥
 In a (b ∷ l) = (a ≡ b) ⊎ In a l
 
+-- one of two statements holds
 abbrev pub either : {A B : Type 0} → Dec A → Dec B → Dec (A ⊎ B)
 either (yes a) d = yes (inl a)
 either (no a) (yes b) = yes (inr b)
 either (no a) (no b) = no (⊎-elim a b)
 
+-- whether a is one of the numbers, with the reason
 unfoldable pub in? : (a : ℕ) (l : List ℕ) → Dec (In a l)
 in? a [] = no (λ b. b)
 in? a (b ∷ l) = either (ℕ-discrete a b) (in? a l)
 
+-- one more, unless it holds
 abbrev pub new : {A : Type 0} → Dec A → ℕ → ℕ
 new (yes a) n = n
 new (no a) n = suc n
 
--- How many different numbers a list has: each counts where it stands last.
+-- How many different numbers a list has: each counts where it stands last (01, Operations: number of distinct keys).
 unfoldable pub distinct : List ℕ → ℕ
 distinct [] = 0
 distinct (a ∷ l) = new (in? a l) (distinct l)
@@ -39,6 +42,6 @@ abbrev pub AscendingFrom : ℕ → List ℕ → Type 0
 AscendingFrom n [] = Unit {0}
 AscendingFrom n (a ∷ l) = (n < a) × AscendingFrom a l
 
--- The list holds exactly the numbers above 0 that have P, ascending.
+-- The list holds exactly the numbers above 0 that have P, ascending (01, Operations: undo listing, waiting list).
 abbrev pub Lists : (ℕ → Type 0) → List ℕ → Type 0
 Lists P l = AscendingFrom 0 l × ((k : ℕ) → In k l ↔ ((0 < k) × P k))

@@ -27,7 +27,7 @@ places (Forward.restrict f d) = shift 1 (places d)
 abbrev pub ForwardAt : Term → Key → List Node → Type 0
 ForwardAt t m x = (l : Label) × (u : Term) × (d : Forward t m l u) × (places d ≡ x)
 
--- The term with the key m at node p; unchanged where that is no prefix.
+-- The term with the key m at node p; unchanged where that is no prefix (01, Operations: each place's two key bytes become the key).
 unfoldable pub mark : Key → Node → Term → Term
 mark m p nil = nil
 mark m zero (pre a k t) = pre a m t
@@ -44,7 +44,7 @@ unfoldable pub marks : Key → List Node → Term → Term
 marks m [] t = t
 marks m (p ∷ l) t = marks m l (mark m p t)
 
--- Node p is a prefix.
+-- Node p is a prefix (01, refusal 4).
 abbrev pub IsPrefix : Node → Term → Type 0
 IsPrefix p nil = ⊥
 IsPrefix zero (pre a k t) = Unit {0}

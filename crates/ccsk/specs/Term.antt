@@ -67,7 +67,7 @@ abbrev pub tick : Bool → Label → List Label → List Label
 tick true a l = a ∷ l
 tick false a l = l
 
--- The labels of the prefixes that hold the key m, from the left, as seen at the root of the term.
+-- The labels of the prefixes that hold the key m, from the left, as seen at the root of the term (01, Soundness: a key marks an action).
 unfoldable pub labels : Key → Term → List Label
 labels m nil = []
 labels m (pre a k t) = tick (eqb m k) a (labels m t)
@@ -96,7 +96,7 @@ blank (cho t u) = cho (blank t) (blank u)
 blank (par t u) = par (blank t) (blank u)
 blank (res a t) = res a (blank t)
 
--- how many nodes a term has
+-- how many nodes a term has (01, The record)
 unfoldable pub size : Term → ℕ
 size nil = 1
 size (pre a k t) = suc (size t)

@@ -9,15 +9,8 @@ use lib.ListN.{length, getD, set}
 use lib.Seq.{getD-set-same, getD-set-other}
 use Rattle.ccsk.specs.Numbers.{In}
 use Rattle.causes.specs.Links.{one-when}
+use Rattle.causes.proofs.Taking.{when-yes, when-no}
 use Rattle.cycles.specs.Queue.{taken, zeros, Distinct, Queued}
-
-when-yes : {A : Type 0} (d : Dec A) (n : ℕ) → A → one-when d n ≡ suc n
-when-yes (yes a) n x = refl
-when-yes (no a) n x = absurd (a x)
-
-when-no : {A : Type 0} (d : Dec A) (n : ℕ) → ¬ A → one-when d n ≡ n
-when-no (yes a) n x = absurd (x a)
-when-no (no a) n x = refl
 
 pub zeros-yes : (j : ℕ) (c : List ℕ) → getD c j 0 ≡ 0 → zeros (suc j) c ≡ suc (zeros j c)
 unfolding zeros

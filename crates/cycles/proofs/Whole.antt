@@ -10,7 +10,8 @@ use lib.Dec.{eqb}
 use lib.ListN.{length, getD, replicate, length-replicate, getD-replicate}
 use Rattle.causes.specs.Links.{times}
 use Rattle.causes.proofs.Taking.{times-le}
-use Rattle.cycles.specs.Graph.{Below, Columns, Acyclic}
+use Rattle.causes.specs.Columns.{Below}
+use Rattle.cycles.specs.Graph.{Columns, Acyclic}
 use Rattle.cycles.specs.Counters.{Room, Counted, Ready}
 use Rattle.cycles.specs.Queue.{Queued}
 

@@ -5,6 +5,7 @@ use mathlib.Core.List.{List}
 use Prim.Native.Nat.{ℕ, _≤_, _<_}
 use lib.ListN.{length, getD}
 use Rattle.sound.specs.Sound.{Chain}
+use Rattle.causes.specs.Columns.{Below}
 
 -- m stands right above n
 abbrev pub Over : List ℕ → List ℕ → ℕ → ℕ → Type 0
@@ -13,10 +14,6 @@ Over one two m n = (0 < m) × (n < length one) × ((m ≡ getD one n 0) ⊎ (m �
 -- going down never leads back
 abbrev pub Acyclic : List ℕ → List ℕ → Type 0
 Acyclic one two = (m : ℕ) → ¬ Chain (Over one two) m m
-
--- every number of the column is below n
-abbrev pub Below : ℕ → List ℕ → Type 0
-Below n l = (i : ℕ) → i < length l → getD l i 0 < n
 
 -- two columns of the same length, over the numbers below it; nothing stands above 0
 pub record Columns (one two : List ℕ) : Type 0 where

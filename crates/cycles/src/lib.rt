@@ -1,20 +1,15 @@
 // Whether a relation on small numbers has a cycle (01, Soundness, 7): numbers that stand above none that is left are taken out, one by one.
 // Helpers between crates, with what each asks of its caller.
+use shared::wide;
 ghost use mathlib.Core.Path.{_≡_};
 ghost use mathlib.Core.Logic.{_↔_};
 ghost use mathlib.Core.Bool.{true};
 ghost use Prim.Native.Nat.{_+_, _<_, _≤_};
 ghost use lib.ListN.{length, getD, replicate};
-ghost use Rattle.cycles.specs.Graph.{Below, Columns, Acyclic};
+ghost use Rattle.causes.specs.Columns.{Below};
+ghost use Rattle.cycles.specs.Graph.{Columns, Acyclic};
 ghost use Rattle.cycles.specs.Queue.{Queued};
 ghost use Rattle.cycles.specs.Counters.{Room, Counted, Released, Ready};
-
-// A 16-bit number as an index.
-fn wide(x: u16) -> usize
-    ensures { λ r. ⌜ r ≡ x ⌝ }
-{
-    x as usize
-}
 
 // Every counter becomes 0.
 fn clear(counters: &mut [u16])

@@ -7,9 +7,11 @@ use reader::NODES;
 use reader::OVER_LIMIT;
 use reader::PREFIX;
 use reader::node_at;
+use shared::both;
+use shared::either;
 ghost use Prim.Native.Nat.{_+_, _<_};
 ghost use mathlib.Core.Path.{_≡_};
-ghost use mathlib.Core.Bool.{not, _&&_, _||_};
+ghost use mathlib.Core.Bool.{not, _&&_};
 ghost use lib.ListN.{length};
 ghost use Rattle.folds.specs.Folded.{OfNil, OverOne, OverTwo, Folded, Looked};
 
@@ -23,11 +25,7 @@ pub struct Marks {
 // What a pass over the term at a place comes to: a refusal, or where the term ends, how many nodes may still come, and its marks.
 pub enum Outcome {
     Refused(u8),
-    Part {
-        next: usize,
-        left: usize,
-        marks: Marks,
-    },
+    Part(usize, usize, Marks),
 }
 
 // What a pass over a whole record comes to.
@@ -70,26 +68,6 @@ fn at_one(s: &[u8], at: usize, kind: usize, below: Marks) -> Marks
         };
     }
     below
-}
-
-// Whether one of two tests holds.
-fn either(a: bool, b: bool) -> bool
-    ensures { λ r. ⌜ r ≡ (a || b) ⌝ }
-{
-    if a {
-        return true;
-    }
-    b
-}
-
-// Whether both of two tests hold.
-fn both(a: bool, b: bool) -> bool
-    ensures { λ r. ⌜ r ≡ (a && b) ⌝ }
-{
-    if a {
-        return b;
-    }
-    false
 }
 
 // Whether condition 2 holds of a choice or a parallel.
@@ -143,37 +121,19 @@ fn fold(s: &[u8], at: usize, deep: usize, left: usize) -> Outcome
             next,
         } => {
             if children == 0 {
-                return Outcome::Part {
-                    next: next,
-                    left: left - 1,
-                    marks: at_nil(),
-                };
+                return Outcome::Part(next, left - 1, at_nil());
             }
             match fold(s, next, deep - 1, left - 1) {
                 Outcome::Refused(c) => Outcome::Refused(c),
-                Outcome::Part {
-                    next: second,
-                    left: rest,
-                    marks: below,
-                } => {
+                Outcome::Part(second, rest, below) => {
                     if children == 1 {
-                        return Outcome::Part {
-                            next: second,
-                            left: rest,
-                            marks: at_one(s, at, kind, below),
-                        };
+                        return Outcome::Part(second, rest, at_one(s, at, kind, below));
                     }
                     match fold(s, second, deep - 1, rest) {
                         Outcome::Refused(c) => Outcome::Refused(c),
-                        Outcome::Part {
-                            next: end,
-                            left: last,
-                            marks: other,
-                        } => Outcome::Part {
-                            next: end,
-                            left: last,
-                            marks: at_two(kind == CHOICE, below, other),
-                        },
+                        Outcome::Part(end, last, other) => {
+                            Outcome::Part(end, last, at_two(kind == CHOICE, below, other))
+                        }
                     }
                 }
             }
@@ -187,11 +147,7 @@ pub fn fold_all(s: &[u8]) -> Whole
 {
     match fold(s, 0, DEPTH, NODES) {
         Outcome::Refused(c) => Whole::Refused(c),
-        Outcome::Part {
-            next,
-            left: _,
-            marks,
-        } => {
+        Outcome::Part(next, _, marks) => {
             if next < s.len() {
                 return Whole::Refused(NO_RECORD);
             }

@@ -1,4 +1,4 @@
--- A record without recursion: the terms that are due at a place, and what one node leaves due. A plain loop goes from node to node by these laws.
+-- The first node of the terms that are due at a place, and what it leaves due: a plain loop goes from node to node by these laws.
 use mathlib.Core.Path.{_≡_, refl, sym, ap, _∙_}
 use mathlib.Core.Bool.{cond}
 use mathlib.Core.List.{List, [], _∷_, _++_, append-assoc, append-nil}
@@ -10,58 +10,9 @@ use lib.Seq.{getD-drop, drop-drop, drop-append-seam}
 use Rattle.ccsk.specs.Term.{Term, Key, nil, pre, cho, par, res, keys, done}
 use Rattle.format.specs.Read.{keyOf}
 use Rattle.format.specs.Encode.{encode, high, low}
+pub use Rattle.format.specs.Kinds.{bodyLength, childCount}
+unfoldable pub use Rattle.format.specs.Flat.{encodes, keysOf, after, headKind, headKey, Due, keyAt}
 use Rattle.format.proofs.Round.{key-bytes}
-
--- the record of several terms, one after the other
-unfoldable pub encodes : List Term → List ℕ
-encodes [] = []
-encodes (t ∷ ts) = encode t ++ encodes ts
-
--- the keys of several terms, from the left
-unfoldable pub keysOf : List Term → List Key
-keysOf [] = []
-keysOf (t ∷ ts) = keys t ++ keysOf ts
-
--- the terms that are due after the first node: its children stand first
-unfoldable pub after : List Term → List Term
-after [] = []
-after (nil ∷ ts) = ts
-after (pre a k t ∷ ts) = t ∷ ts
-after (cho t u ∷ ts) = t ∷ (u ∷ ts)
-after (par t u ∷ ts) = t ∷ (u ∷ ts)
-after (res a t ∷ ts) = t ∷ ts
-
--- the kind and the key of the first node; its key is 0 if it is no prefix
-unfoldable pub headKind : List Term → ℕ
-headKind [] = 0
-headKind (nil ∷ ts) = 0
-headKind (pre a k t ∷ ts) = 1
-headKind (cho t u ∷ ts) = 2
-headKind (par t u ∷ ts) = 3
-headKind (res a t ∷ ts) = 4
-
-unfoldable pub headKey : List Term → Key
-headKey [] = 0
-headKey (nil ∷ ts) = 0
-headKey (pre a k t ∷ ts) = k
-headKey (cho t u ∷ ts) = 0
-headKey (par t u ∷ ts) = 0
-headKey (res a t ∷ ts) = 0
-
--- how many bytes a body has and how many children a node, by kind (01, The record)
-abbrev pub bodyLength : ℕ → ℕ
-bodyLength kind = getD (0 ∷ 3 ∷ 0 ∷ 0 ∷ 1 ∷ []) kind 0
-
-abbrev pub childCount : ℕ → ℕ
-childCount kind = getD (0 ∷ 1 ∷ 2 ∷ 2 ∷ 1 ∷ []) kind 0
-
--- From the place `at` on, the bytes s are the record of the terms ts.
-abbrev pub Due : List ℕ → ℕ → List Term → Type 0
-Due s at ts = drop at s ≡ encodes ts
-
--- the key of the node at a place, by its bytes; 0 if it is no prefix
-abbrev pub keyAt : List ℕ → ℕ → Key
-keyAt s at = cond (eqb (getD s at 0) 1) (keyOf (getD s (at + 2) 0) (getD s (at + 3) 0)) 0
 
 -- The first node of the terms that are due at a place: its kind, its end, what is due then, and its key.
 record FirstNode (s : List ℕ) (at : ℕ) (ts : List Term) : Type 0 where

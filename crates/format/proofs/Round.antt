@@ -1,15 +1,14 @@
 -- Reading and writing are inverse: bytes that can be read are the record of exactly one term within the limits, and the record of every such term can be read.
-use mathlib.Core.Path.{_≡_, refl, ap, sym, _∙_}
-use mathlib.Core.List.{List, [], _∷_, _++_, append-assoc, append-nil}
-use mathlib.Core.Bool.{Bool, true, false}
-use Prim.Native.Nat.{ℕ, zero, suc, _+_, _-_, _<_, _≤_, _*_, _/_, _%_, max}
+use mathlib.Core.Path.{_≡_, refl, ap}
+use mathlib.Core.List.{List, [], _++_, append-assoc, append-nil}
+use Prim.Native.Nat.{ℕ, zero, suc, _+_, _-_, _≤_}
 use native.Mathlib.Nat.{div-add-mod'}
 use native.Mathlib.Omega.{arith}
 use borrow.Author.Tests.{ne-eqb, le-leb}
 use Rattle.ccsk.specs.Term.{Term, nil, pre, cho, par, res, size}
 use Rattle.format.specs.Limits.{node-limit, depth-limit}
-use Rattle.format.specs.Read.{Reading, Reading.refused, term, Kind, kindOf, node, read, keyOf, finish, decode, Opened, opened, Reads, Refuses}
-use Rattle.format.specs.Encode.{high, low, encode, depth, InRange, Fits, Bytes}
+use Rattle.format.specs.Read.{term, kindOf, node, read, keyOf, finish, decode, Reads}
+use Rattle.format.specs.Encode.{high, low, encode, depth, InRange, Fits}
 
 -- a key is its two bytes
 pub key-bytes : (k : ℕ) → keyOf (high k) (low k) ≡ k

@@ -3,7 +3,7 @@ use mathlib.Core.Path.{_≡_}
 use mathlib.Core.List.{List, [], _∷_}
 use mathlib.Core.Bool.{Bool, true, false}
 use Prim.Native.Nat.{ℕ, zero, suc, _+_, _*_}
-use lib.Dec.{eqb, ltb, leb}
+use lib.Dec.{eqb, leb}
 use Rattle.ccsk.specs.Term.{Term, Key, nil, pre, cho, par, res}
 use Rattle.format.specs.Limits.{node-limit, depth-limit}
 
@@ -16,6 +16,7 @@ pub data Reading : Type 0 where
 pub data Kind : Type 0 where
   nil-kind prefix-kind choice-kind parallel-kind restriction-kind no-kind : Kind
 
+-- the kind that a byte names
 unfoldable pub kindOf : ℕ → Kind
 kindOf zero = nil-kind
 kindOf (suc zero) = prefix-kind

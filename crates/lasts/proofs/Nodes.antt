@@ -11,7 +11,7 @@ use lib.ListN.{length, length-append, length-set}
 use lib.Seq.{getD-set-same, getD-set-other}
 use Rattle.ccsk.specs.Term.{Term, Key, Node, Label, Name, nil, pre, cho, par, res, Channel, Std, On, size, labels, tick}
 use Rattle.ccsk.proofs.Basic.{tau-open, std-labels}
-use Rattle.ccsk.proofs.Decide.{on?}
+use Rattle.ccsk.specs.Decide.{on?}
 use Rattle.format.specs.Encode.{InRange}
 use Rattle.moves.specs.Choose.{undo-choice}
 use Rattle.moves.specs.Move.{Move, still, step, stuck, holds, pass, hiddenIf, overPrefix, overChoice, overRestriction, move}

@@ -7,7 +7,7 @@ use native.Mathlib.Omega.{arith}
 use lib.ListN.{length, length-append}
 use Rattle.ccsk.specs.Term.{Label, Co}
 use Rattle.ccsk.proofs.Basic.{co-sym}
-use Rattle.ccsk.proofs.Decide.{co?}
+use Rattle.ccsk.specs.Decide.{co?}
 use Rattle.moves.specs.Move.{Move, still, step, stuck, joinedIf, overParallel}
 use Rattle.lasts.specs.Last.{Last, Scopes, slot, scope-of}
 
@@ -73,9 +73,6 @@ nowhere (dead (many h)) = absurd (omega arith)
 module _ (n b : ℕ) (x y : List Last) (c d : List Label) where
   lost-left : length x < length c → length y ≤ length d → Dead n b (x ++ y) (c ++ d)
   lost-left h i = let z : length (x ++ y) < length (c ++ d) = rw (length-append x y, length-append c d) (omega arith) in lost z
-
-  lost-right : length x ≤ length c → length y < length d → Dead n b (x ++ y) (c ++ d)
-  lost-right h i = let z : length (x ++ y) < length (c ++ d) = rw (length-append x y, length-append c d) (omega arith) in lost z
 
   many-both : 2 < length c + length d → Dead n b (x ++ y) (c ++ d)
   many-both h = let z : 2 < length (c ++ d) = rw (length-append c d) h in many z

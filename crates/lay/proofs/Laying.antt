@@ -10,7 +10,8 @@ use lib.Seq.{set-set, set-getD}
 use Rattle.ccsk.specs.Term.{Term, Key, nil, pre, cho, par, res, size}
 use Rattle.format.specs.Limits.{node-limit}
 use Rattle.format.specs.Encode.{encode, InRange}
-use Rattle.format.proofs.Flat.{headKind, headKey, bodyLength, childCount, keyAt}
+use Rattle.format.specs.Kinds.{bodyLength, childCount}
+use Rattle.format.specs.Flat.{headKind, headKey, keyAt}
 use Rattle.causes.specs.Entry.{Entry, Scopes, under, marked, entries}
 use Rattle.lay.specs.declared.Place.{Place}
 use Rattle.lay.specs.Sheet.{Sheet, Sized, Rows}

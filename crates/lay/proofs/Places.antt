@@ -10,7 +10,9 @@ use lib.Seq.{getD-drop, drop-drop, drop-append-seam}
 use Rattle.ccsk.specs.Term.{Term, nil, pre, cho, par, res, size}
 use Rattle.format.specs.Limits.{node-limit}
 use Rattle.format.specs.Encode.{encode}
-use Rattle.format.proofs.Flat.{encodes, after, headKind, headKey, bodyLength, Due, keyAt, none-due, key-here, kind-here, kind-known, ends-within, due-after}
+use Rattle.format.specs.Kinds.{bodyLength}
+use Rattle.format.specs.Flat.{encodes, after, headKind, headKey, Due, keyAt}
+use Rattle.format.proofs.Flat.{none-due, key-here, kind-here, kind-known, ends-within, due-after}
 use Rattle.causes.specs.Entry.{marked}
 use Rattle.lay.specs.Lay.{Here, Ready}
 

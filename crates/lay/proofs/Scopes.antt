@@ -8,7 +8,7 @@ use native.Mathlib.Omega.{arith}
 use lib.ListN.{length, getD, set}
 use lib.Seq.{getD-set-same, getD-set-other}
 use Rattle.ccsk.specs.Term.{Name, Node, Channel, On}
-use Rattle.ccsk.proofs.Decide.{on?}
+use Rattle.ccsk.specs.Decide.{on?}
 use Rattle.causes.specs.Entry.{Scopes, nearest, under, open-scopes}
 use Rattle.lay.specs.Lay.{Tells}
 

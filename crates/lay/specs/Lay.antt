@@ -7,7 +7,7 @@ use lib.ListN.{length, take, getD}
 use Rattle.ccsk.specs.Term.{Term, Label, Key, Node, size}
 use Rattle.format.specs.Limits.{node-limit}
 use Rattle.format.specs.Encode.{encode, InRange}
-use Rattle.format.proofs.Flat.{Due}
+use Rattle.format.specs.Flat.{Due}
 use Rattle.causes.specs.Entry.{Entry, Scopes, marked, entries, all}
 use Rattle.keys.specs.Gather.{RecordOf}
 use Rattle.lay.specs.declared.Place.{Place}

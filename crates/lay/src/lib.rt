@@ -7,6 +7,7 @@ use reader::RESTRICTION;
 use reader::body_length;
 use reader::child_count;
 use reader::wide;
+use shared::NAMES;
 ghost use mathlib.Core.Path.{_≡_};
 ghost use Prim.Native.Nat.{_+_, _<_, _%_};
 ghost use lib.ListN.{length, getD, set};
@@ -14,9 +15,6 @@ ghost use Rattle.format.specs.Limits.{node-limit};
 ghost use Rattle.keys.specs.Gather.{Readable};
 ghost use Rattle.lay.specs.Sheet.{sheet, Sized};
 ghost use Rattle.lay.specs.Lay.{Ready, Lays, Whole, LaidOut};
-
-// A name and its co-name share a place in the table of nearest restrictions.
-pub const NAMES: usize = 128;
 
 // The place of a term: where it begins, the number of its root, and the row of its first key.
 pub struct Place {

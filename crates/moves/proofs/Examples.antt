@@ -6,7 +6,7 @@ use native.Mathlib.Decide.{ℕ-discrete, decLe}
 use lib.Dec.{eqb}
 use Rattle.ccsk.specs.Term.{Term, nil, pre, cho, par, res, size}
 use Rattle.ccsk.specs.Place.{shift}
-use Rattle.ccsk.proofs.Decide.{channel?, co?, on?}
+use Rattle.ccsk.specs.Decide.{channel?, co?, on?}
 use Rattle.format.specs.Encode.{encode}
 use Rattle.moves.specs.Choose.{forward-choice, undo-choice, chosen, spots}
 use Rattle.moves.specs.Move.{step, stuck, holds, move}

@@ -65,13 +65,6 @@ holds-std t = pick (holds t) (holding t)
     pick true h = (λ e. absurd (true≢false e), λ s. absurd (h s))
     pick false h = (λ e. h, λ s. refl)
 
-pub holds-key : (t : Term) → holds t ≡ true ↔ ¬ Std t
-holds-key t = pick (holds t) (holding t)
-  where
-    pick : (b : Bool) → Holding b t → b ≡ true ↔ ¬ Std t
-    pick true h = (λ e. h, λ f. refl)
-    pick false h = (λ e. absurd (false≢true e), λ f. absurd (f h))
-
 -- the key m stands in the term exactly if the test succeeds
 pub stands-has : (m : Key) (t : Term) → stands m t ≡ true ↔ Has m t
 stands-has m t = pick (stands m t) (standing m t)

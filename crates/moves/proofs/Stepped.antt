@@ -11,7 +11,7 @@ use Rattle.ccsk.specs.Step.{Forward, Forward.top, Forward.prefix, Forward.choic
 use Rattle.ccsk.specs.Place.{shift, places, ForwardAt}
 use Rattle.ccsk.proofs.Basic.{never}
 use Rattle.ccsk.proofs.Place.{Under, Placed, alone, joined, places-under, step-placed}
-use Rattle.ccsk.proofs.Decide.{co?, on?}
+use Rattle.ccsk.specs.Decide.{co?, on?}
 use Rattle.ccsk.proofs.ForwardDec.{zero-one, shift-once, down-le, Below, With, Joint, single, inv-pre, inv-cho, inv-par, inv-res, label}
 use Rattle.moves.specs.Choose.{chosen}
 use Rattle.moves.specs.Move.{Move, still, step, stuck, holds, own, pass, overPrefix, overChoice, overParallel, overRestriction, joinedIf, hiddenIf, move}

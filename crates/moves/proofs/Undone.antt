@@ -9,7 +9,7 @@ use Rattle.ccsk.specs.Term.{Term, Name, Label, Key, Node, nil, pre, cho, par, r
 use Rattle.ccsk.specs.Step.{Undo, Undo.top, Undo.prefix, Undo.choice₁, Undo.choice₂, Undo.par₁, Undo.par₂, Undo.synch, Undo.restrict, Undoable}
 use Rattle.ccsk.proofs.Basic.{never, std-has}
 use Rattle.ccsk.proofs.Undo.{present, std-stuck}
-use Rattle.ccsk.proofs.Decide.{co?, on?}
+use Rattle.ccsk.specs.Decide.{co?, on?}
 use Rattle.ccsk.proofs.UndoDec.{inv-pre, inv-cho, inv-par, inv-res, label}
 use Rattle.moves.specs.Choose.{undo-choice}
 use Rattle.moves.specs.Move.{Move, still, step, stuck, holds, own, pass, overPrefix, overChoice, overParallel, overRestriction, joinedIf, hiddenIf, move}

@@ -3,7 +3,7 @@ use mathlib.Core.Bool.{Bool, true, false, not, _||_}
 use Prim.Native.Nat.{_+_}
 use lib.Dec.{eqb}
 use Rattle.ccsk.specs.Term.{Term, Name, Label, Key, Node, nil, pre, cho, par, res, size}
-use Rattle.ccsk.proofs.Decide.{co?, on?}
+use Rattle.ccsk.specs.Decide.{co?, on?}
 
 -- Of a part of the record: no chosen prefix is there; or all that are there step together, with the label seen at the part's root;
 -- or some are there and do not.

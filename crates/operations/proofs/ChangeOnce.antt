@@ -10,8 +10,7 @@ use Rattle.ccsk.specs.Place.{ForwardAt}
 use Rattle.ccsk.proofs.Basic.{has?, never}
 use Rattle.ccsk.proofs.Place.{step-once}
 use Rattle.ccsk.proofs.Loop.{undo-of-forward}
-use Rattle.ccsk.proofs.Undo.{key-pos, present, undo-once}
-use Rattle.ccsk.proofs.Forward.{fresh-before}
+use Rattle.ccsk.proofs.Undo.{key-pos, present, absent, undo-once}
 use Rattle.ccsk.proofs.ForwardDec.{forward?}
 use Rattle.ccsk.proofs.UndoDec.{undo?}
 use Rattle.format.specs.Read.{Reads, decode, Opened, Opened.refused, opened}
@@ -49,7 +48,7 @@ forward-only {p = p} {q = q} {m = m} (ForwardStep.key-stands {t = t} e h a i) = 
 forward-only {s} {p = p} {q = q} {m = m} (ForwardStep.not-derived {t = t} e h a i f) =
     rw (e, choose-no (ℕ-discrete m 0) _ _ (never h), choose-yes (places? t p q) _ _ a, choose-no (has? m t) _ _ i) (made-no s (forward? t m (pair p q)) f)
 forward-only {s} {p = p} {q = q} {m = m} (ForwardStep.done {t = t} e w) =
-    rw (e, choose-no (ℕ-discrete m 0) _ _ (never (key-pos (undo-of-forward (w .2)))), choose-yes (places? t p q) _ _ (forward-places t m p q w), choose-no (has? m t) _ _ (fresh-before (w .2)))
+    rw (e, choose-no (ℕ-discrete m 0) _ _ (never (key-pos (undo-of-forward (w .2)))), choose-yes (places? t p q) _ _ (forward-places t m p q w), choose-no (has? m t) _ _ (absent (undo-of-forward (w .2))))
     (made-once s (forward? t m (pair p q)) w)
 
 pub forward-some : (s : List ℕ) (p q : Node) (m : Key) → Fit (ForwardStep s p q m) (forward-answer s p q m)

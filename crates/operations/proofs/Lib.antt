@@ -9,6 +9,7 @@ pub mod FirstOnce
 pub mod RowOnce
 pub mod Marked
 pub mod Sides
+pub mod Examples
 pub mod Readable
 pub mod Kept
 pub mod KeyPlaces

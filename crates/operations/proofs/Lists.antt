@@ -6,7 +6,8 @@ use Prim.Native.Nat.{ℕ, suc, _+_, _<_, _≤_}
 use native.Mathlib.Decide.{ℕ-discrete, decLt}
 use native.Mathlib.Omega.{arith}
 use Rattle.ccsk.specs.Numbers.{In, in?, distinct, AscendingFrom, Lists, LeastFree}
-use Rattle.ccsk.proofs.Decide.{both, isnt}
+use Rattle.ccsk.specs.Decide.{both}
+use Rattle.ccsk.proofs.Decide.{isnt}
 use Rattle.ccsk.proofs.Lists.{row-distinct}
 use Rattle.operations.proofs.Search.{Least, search-up}
 

@@ -9,7 +9,8 @@ use Rattle.ccsk.specs.Numbers.{Lists}
 use Rattle.ccsk.specs.Term.{Term, Key, Has, keys}
 use Rattle.ccsk.specs.Step.{Undoable}
 use Rattle.ccsk.proofs.Basic.{has?, never}
-use Rattle.ccsk.proofs.Decide.{both, isnt}
+use Rattle.ccsk.specs.Decide.{both}
+use Rattle.ccsk.proofs.Decide.{isnt}
 use Rattle.ccsk.proofs.Keys.{has-in}
 use Rattle.ccsk.proofs.Undo.{present}
 use Rattle.ccsk.proofs.UndoDec.{undo?}

@@ -7,7 +7,8 @@ use native.Mathlib.Decide.{ℕ-discrete}
 use native.Mathlib.Omega.{arith}
 use lib.ListN.{length, getD, set}
 use lib.Seq.{getD-set-same, getD-set-other}
-use Rattle.pairs.specs.Answer.{Below, above, Climbed}
+use Rattle.causes.specs.Columns.{Below}
+use Rattle.pairs.specs.Answer.{above, Climbed}
 
 -- the rows r₀ before j have become what is right above them, the others are as they were
 abbrev pub Climbing : List ℕ → List ℕ → List ℕ → ℕ → Type 0

@@ -12,8 +12,9 @@ use lib.Dec.{eqb}
 use lib.ListN.{length, getD, set, take, drop, length-append, length-set, take-append-drop}
 use lib.Seq.{take-suc, take-all, length-take-le, getD-set-same, getD-set-other}
 use Rattle.ccsk.specs.Term.{tick}
+use Rattle.causes.specs.Columns.{Below}
 use Rattle.pairs.specs.Rows.{rows-of, row, Indexed}
-use Rattle.pairs.specs.Answer.{Zero, Below, Entered, as-first, as-second, as-third}
+use Rattle.pairs.specs.Answer.{Zero, Entered, as-first, as-second, as-third}
 
 -- a row more at the end
 rows-append : (m i : ℕ) (x y : List ℕ) → rows-of m i (x ++ y) ≡ rows-of m i x ++ rows-of m (i + length x) y

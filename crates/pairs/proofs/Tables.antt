@@ -15,16 +15,9 @@ use Rattle.causes.specs.Entry.{Entry, keep, only}
 use Rattle.causes.specs.Tests.{EachKey, AtMostTwo, Complements, Beside, Enclosed}
 use Rattle.causes.specs.Links.{renamed}
 use Rattle.causes.proofs.Renaming.{Blind, two-blind, complements-blind, beside-blind, enclosed-blind}
+use Rattle.causes.specs.Columns.{Below, Positive, Square}
 use Rattle.pairs.specs.Rows.{table, rows-of, row, Indexed}
 use Rattle.pairs.specs.Cause.{Lowest, spots, of, EachBelow, CauseBelow, Placed, EachPlaced}
-use Rattle.pairs.specs.Answer.{Below}
-
--- five columns of the same length
-pub record Square (ks acs es ss us : List ℕ) : Type 0 where
-  pub actions : length acs ≡ length ks
-  pub ends : length es ≡ length ks
-  pub scopes : length ss ≡ length ks
-  pub ups : length us ≡ length ks
 
 -- a column is what another is from place i on
 abbrev From : ℕ → List ℕ → List ℕ → Type 0
@@ -74,11 +67,7 @@ unfolding spots
 spots-length acs es ss [] = refl
 spots-length acs es ss (r ∷ l) = ap suc (spots-length acs es ss l)
 
--- keys are above 0
-abbrev pub Keys : List ℕ → Type 0
-Keys ks = (i : ℕ) → i < length ks → 0 < getD ks i 0
-
-module _ (ks acs es ss us first second : List ℕ) (q : Square ks acs es ss us) (b : Below (length first) ks) (p : Keys ks) where
+module _ (ks acs es ss us first second : List ℕ) (q : Square ks acs es ss us) (b : Below (length first) ks) (p : Positive ks) where
   abbrev l : List Entry
   l = table 0 ks acs es ss us
 

@@ -11,10 +11,6 @@ use Rattle.pairs.specs.Rows.{rows-of, Indexed}
 abbrev pub Zero : List ℕ → Type 0
 Zero l = (k : ℕ) → k < length l → getD l k 0 ≡ 0
 
--- every number of the list is below n
-abbrev pub Below : ℕ → List ℕ → Type 0
-Below n l = (i : ℕ) → i < length l → getD l i 0 < n
-
 -- The row is noted, one higher, as the first or the second of k; or both were noted before, and nothing changes.
 pub data Entered (r k : ℕ) (first second : List ℕ) : List ℕ → List ℕ → Bool → Type 0 where
   as-first : getD first k 0 ≡ 0 → Entered r k first second (set first k (r + 1)) second true

@@ -1,13 +1,13 @@
 // The conditions 3 to 6 of 01 (Soundness) on columns of numbers, a row for each prefix that holds a key.
 // Helpers between crates, with what each asks of its caller.
+use shared::complementary;
+use shared::wide;
 ghost use mathlib.Core.Path.{_≡_};
-ghost use mathlib.Core.Bool.{true};
-ghost use mathlib.Core.Logic.{_↔_};
 ghost use Prim.Native.Nat.{_+_, _<_};
 ghost use lib.ListN.{length};
-ghost use Rattle.ccsk.specs.Term.{Co};
+ghost use Rattle.causes.specs.Columns.{Below};
 ghost use Rattle.pairs.specs.Cause.{Placed, EachPlaced, CauseAt, CauseBelow};
-ghost use Rattle.pairs.specs.Answer.{Zero, Below, Entered, Index, Climbed};
+ghost use Rattle.pairs.specs.Answer.{Zero, Entered, Index, Climbed};
 
 // The conditions 4, 5 and 6, and the number above them for nothing wrong.
 pub const NO_COMPLEMENT: u8 = 4;
@@ -17,41 +17,6 @@ pub const NOT_APART: u8 = 5;
 pub const NOT_HIDDEN: u8 = 6;
 
 pub const NOTHING: u8 = 7;
-
-// A name is complementary to the action this much above it.
-const CO: usize = 128;
-
-// A number as an index.
-fn wide(x: u16) -> usize
-    ensures { λ r. ⌜ r ≡ x ⌝ }
-{
-    x as usize
-}
-
-// A byte as an index.
-fn wide_byte(x: u8) -> usize
-    ensures { λ r. ⌜ r ≡ x ⌝ }
-{
-    x as usize
-}
-
-// Whether one action is a name and the other its co-name.
-fn complementary(x: u8, y: u8) -> bool
-    ensures { λ r. ⌜ (r ≡ true) ↔ Co x y ⌝ }
-{
-    let a = wide_byte(x);
-    let b = wide_byte(y);
-    if a == 0 {
-        return false;
-    }
-    if b == 0 {
-        return false;
-    }
-    if a < b {
-        return b == a + CO;
-    }
-    a == b + CO
-}
 
 // Notes that the row holds the key k; false if two rows before it do.
 fn enter(row: u16, k: usize, first: &mut [u16], second: &mut [u16]) -> bool

@@ -1,8 +1,7 @@
 -- The rows of small terms, computed. a is the name 1, b the name 2, a' the co-name 129.
 use mathlib.Core.Path.{_≡_, refl}
-use mathlib.Core.List.{List, [], _∷_}
+use mathlib.Core.List.{[], _∷_}
 use mathlib.Core.Bool.{true}
-use Prim.Native.Nat.{ℕ}
 use Rattle.ccsk.specs.Term.{Term, nil, pre, cho, par, res, size}
 use Rattle.moves.specs.Move.{holds}
 use Rattle.paths.specs.Rows.{actions, scopes, sides, ends, no-scopes}

@@ -1,27 +1,20 @@
 -- One node without its children, as `node_at` finds it, against the reading of a record.
 use mathlib.Core.Path.{_≡_}
-use mathlib.Core.List.{List, [], _∷_}
+use mathlib.Core.List.{List}
 use Prim.Native.Nat.{ℕ, _≤_, _+_}
 use lib.ListN.{length, drop, getD}
 use Rattle.ccsk.specs.Term.{nil, pre, cho, par, res}
+pub use Rattle.format.specs.Kinds.{childCount}
+use Rattle.format.specs.Kinds.{bodies, families, bodyLength}
 use Rattle.format.specs.Read.{Reading, refused, term, Kind, nil-kind, prefix-kind, choice-kind, parallel-kind, restriction-kind, no-kind, kindOf, keyOf, node, oneChild, twoChildren}
 use Rattle.reader.specs.declared.Head.{Head}
 use Rattle.reader.specs.declared.Head.the-variants.{Bad, Node}
 
--- the tables by kind: how many bytes a body has, and how many children a node (01, The record, the table of kinds)
-abbrev pub bodies : List ℕ
-bodies = 0 ∷ 3 ∷ 0 ∷ 0 ∷ 1 ∷ []
-
-abbrev pub families : List ℕ
-families = 0 ∷ 1 ∷ 2 ∷ 2 ∷ 1 ∷ []
-
+-- how many bytes a body has, by kind
 abbrev pub body : ℕ → ℕ
-body kind = getD bodies kind 0
+body = bodyLength
 
-abbrev pub childCount : ℕ → ℕ
-childCount kind = getD families kind 0
-
--- the two lists are the tables
+-- the two lists are the tables by kind
 abbrev pub Tables : List ℕ → List ℕ → Type 0
 Tables b f = (b ≡ bodies) × (f ≡ families)
 

@@ -8,8 +8,9 @@ use native.Mathlib.Omega.{arith}
 use lib.ListN.{length, getD, set, take}
 use lib.Seq.{take-suc, take-all, getD-set-same, getD-set-other}
 use Rattle.ccsk.specs.Term.{done}
+use Rattle.causes.specs.Columns.{Positive}
 use Rattle.keys.specs.Gather.{Holds, Marked}
-use Rattle.slots.specs.Slot.{Renamed, Positive}
+use Rattle.slots.specs.Slot.{Renamed}
 
 -- one key more is in the set
 pub gather-one : (m m′ ks : List ℕ) (i r : ℕ) → i < length ks → Positive ks → Marked m (getD ks i 0) m′ r → Holds m (take i ks) → Holds m′ (take (i + 1) ks)

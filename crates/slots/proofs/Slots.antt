@@ -7,13 +7,13 @@ use Prim.Native.Nat.{ℕ, zero, suc, _+_, _≤_, _<_}
 use native.Mathlib.Omega.{arith}
 use lib.ListN.{length, getD}
 use Rattle.ccsk.specs.Numbers.{In}
-use Rattle.causes.proofs.Renaming.{Faithful}
+use Rattle.causes.specs.Columns.{Faithful, Positive}
 use Rattle.keyset.specs.Set.{member}
 use Rattle.keys.specs.Gather.{Holds}
 use Rattle.keys.proofs.Distinct.{distinct-length}
 use Rattle.rank.specs.Rank.{rank}
 use Rattle.rank.proofs.Ranks.{rank-once, rank-less, rank-counts}
-use Rattle.slots.specs.Slot.{slot, Renamed, Positive, Numberable, Numbered}
+use Rattle.slots.specs.Slot.{slot, Renamed, Numberable, Numbered}
 
 -- what is in a column stands in one of its places
 pub in-place : (k : ℕ) (l : List ℕ) → In k l → (i : ℕ) × (i < length l) × (k ≡ getD l i 0)

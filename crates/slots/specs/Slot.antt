@@ -6,7 +6,7 @@ use Prim.Native.Nat.{ℕ, zero, suc, _+_, _≤_, _<_}
 use lib.ListN.{length, getD}
 use Rattle.ccsk.specs.Numbers.{In}
 use Rattle.ccsk.specs.Term.{Key}
-use Rattle.causes.proofs.Renaming.{Faithful}
+use Rattle.causes.specs.Columns.{Below, Faithful, Positive}
 use Rattle.rank.specs.Rank.{rank}
 
 -- the small number of a key: one more than its rank in a set of keys; 0 stays 0
@@ -17,14 +17,6 @@ slot m (suc k) = suc (rank m (suc k))
 -- each number of a column has become its new one
 abbrev pub Renamed : (ℕ → ℕ) → List ℕ → List ℕ → Type 0
 Renamed f c c′ = (length c′ ≡ length c) × ((i : ℕ) → i < length c → getD c′ i 0 ≡ f (getD c i 0))
-
--- every number is a key
-abbrev pub Positive : List ℕ → Type 0
-Positive ks = (i : ℕ) → i < length ks → 0 < getD ks i 0
-
--- every number is below n
-abbrev pub Below : ℕ → List ℕ → Type 0
-Below n l = (i : ℕ) → i < length l → getD l i 0 < n
 
 -- a column of keys, and one of numbers that are among them or 0
 pub record Numberable (ks us : List ℕ) : Type 0 where

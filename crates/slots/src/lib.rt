@@ -6,9 +6,10 @@ ghost use mathlib.Core.Path.{_≡_};
 ghost use mathlib.Core.List.{[]};
 ghost use Prim.Native.Nat.{_<_};
 ghost use lib.ListN.{length};
+ghost use Rattle.causes.specs.Columns.{Positive};
 ghost use Rattle.keys.specs.Gather.{Holds};
 ghost use Rattle.rank.specs.Rank.{rank, Ranked};
-ghost use Rattle.slots.specs.Slot.{slot, Renamed, Positive, Numberable, Numbered};
+ghost use Rattle.slots.specs.Slot.{slot, Renamed, Numberable, Numbered};
 
 // Puts the keys of a column into an empty set.
 fn gather(column: &[u16], marks: &mut [u8; BYTES])

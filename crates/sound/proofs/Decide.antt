@@ -2,14 +2,15 @@
 use mathlib.Core.Path.{_≡_, refl, ap, _∙_}
 use mathlib.Core.Logic.{inl, inr, ⊎-elim, _≢_}
 use mathlib.Core.List.{List, [], _∷_}
-use Prim.Native.Nat.{ℕ, zero, suc, _+_, _≤_, _<_}
+use Prim.Native.Nat.{ℕ, zero, suc, _≤_, _<_}
 use native.Mathlib.Decide.{ℕ-discrete, decLe}
 use native.Mathlib.Omega.{arith}
 use lib.ListN.{length}
 use Rattle.ccsk.specs.Numbers.{In, either}
-use Rattle.ccsk.specs.Term.{Term, nil, pre, cho, par, res, Std, Has, Channel, Co, On, labels, keys}
+use Rattle.ccsk.specs.Term.{Term, nil, pre, cho, par, res, Has, Co, On, labels, keys}
 use Rattle.sound.specs.Sound.{count, Waits, Chosen, Twice, Paired, Apart, Split, Hidden, Ordered, Verdict, sound, fails₁, fails₂, fails₃, fails₄, fails₅, fails₆, fails₇}
-use Rattle.ccsk.proofs.Decide.{both, three, std?, co?, on?}
+use Rattle.ccsk.specs.Decide.{both, co?, on?}
+use Rattle.ccsk.proofs.Decide.{three, std?}
 use Rattle.ccsk.proofs.Basic.{fresh-labels, has?}
 use Rattle.ccsk.proofs.Keys.{has-in, in-has}
 use Rattle.sound.proofs.Top.{ordered?}

@@ -8,3 +8,4 @@ pub mod Top
 pub mod Reach
 pub mod Literal
 pub mod Decide
+pub mod Examples

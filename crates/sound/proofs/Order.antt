@@ -1,5 +1,4 @@
 -- Condition 7 through a step: an undo takes edges away, a forward step adds edges that only end in its key.
-use mathlib.Core.Path.{refl}
 use mathlib.Core.Logic.{inl, inr, _≢_, _↔_}
 use Prim.Native.Nat.{ℕ, _<_}
 use Rattle.ccsk.specs.Term.{Term, nil, pre, cho, par, res, Has}

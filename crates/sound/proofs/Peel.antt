@@ -85,10 +85,6 @@ module _ (R : ℕ → ℕ → Type 0) (R? : (m n : ℕ) → Dec (R m n)) where
   closed (m ∷ O) w x y (inl e) b = inr (w .1 y (rw e at b))
   closed (m ∷ O) w x y (inr i) b = inr (closed O (w .2) x y i b)
 
-  inside : (O : List ℕ) → Rowed O → {x y : ℕ} → In x O → Chain R x y → In y O
-  inside O w i (one {m = x} {n = y} b) = closed O w x y i b
-  inside O w i (more {k = x} {n = y} c b) = closed O w x y (inside O w i c) b
-
   after : (m : ℕ) (O : List ℕ) → Rowed O → ((n : ℕ) → R m n → In n O) → {z : ℕ} → Chain R m z → In z O
   after m O w f (one {n = y} b) = f y b
   after m O w f (more {k = x} {n = y} c b) = closed O w x y (after m O w f c) b

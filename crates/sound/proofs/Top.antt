@@ -5,7 +5,7 @@ use Rattle.ccsk.specs.Numbers.{either}
 use Rattle.ccsk.specs.Term.{Term, nil, pre, cho, par, res, Has, keys}
 use Rattle.sound.specs.Sound.{Above, Before, Ordered}
 use Rattle.ccsk.proofs.Basic.{has?}
-use Rattle.ccsk.proofs.Decide.{both}
+use Rattle.ccsk.specs.Decide.{both}
 use Rattle.ccsk.proofs.Keys.{has-in, in-has}
 use Rattle.sound.proofs.Peel.{peak, acyclic?}
 use Rattle.sound.proofs.Order.{above-low, above-high}

@@ -9,12 +9,13 @@ use Rattle.ccsk.specs.Numbers.{In}
 use Rattle.ccsk.specs.Term.{Term, Key, Node, nil, pre, cho, par, res, size}
 use Rattle.causes.specs.Entry.{Entry, Scopes, under, open-scopes, marked, entries, all}
 use Rattle.causes.specs.Links.{key-column, renamed}
-use Rattle.causes.proofs.Renaming.{Faithful, Known, all-known}
+use Rattle.causes.proofs.Renaming.{Known, all-known}
+use Rattle.causes.specs.Columns.{Faithful, Positive}
 use Rattle.lay.specs.Sheet.{column}
 use Rattle.lay.proofs.Columns.{column-length}
 use Rattle.lay.proofs.Whole.{entries-count}
 use Rattle.pairs.specs.Rows.{table}
-use Rattle.slots.specs.Slot.{Renamed, Positive, Numberable, Numbered}
+use Rattle.slots.specs.Slot.{Renamed, Numberable, Numbered}
 use Rattle.slots.proofs.Slots.{place-in}
 use Rattle.verdict.specs.Laid.{Laid}
 use Rattle.soundness.specs.Judge.{Begun, Sheet, Slotted}

@@ -1,9 +1,9 @@
 -- The plans of forward step and undo are what the promises ask for: a law for each way out.
 use mathlib.Core.Path.{_≡_, sym, ap, subst, _∙_}
 use mathlib.Core.Logic.{⊎-elim, _≢_}
-use mathlib.Core.List.{List, [], _∷_}
+use mathlib.Core.List.{List}
 use mathlib.Core.Bool.{Bool, true, false}
-use Prim.Native.Nat.{ℕ, suc, _+_, _<_, _≤_}
+use Prim.Native.Nat.{ℕ, _+_, _<_, _≤_}
 use native.Mathlib.Omega.{arith}
 use lib.Dec.{eqb}
 use lib.ListN.{length, getD}
@@ -27,11 +27,6 @@ use Rattle.survey.specs.declared.pass.Whole.the-variants as whole
 use Rattle.survey.specs.Seen.{Found, moveOf}
 use Rattle.survey.specs.Survey.{Looked}
 use Rattle.steps.specs.Plan.{planned, told, carried, Inside, place, settled, WouldUndo}
-
--- a list of elements below 256 is a list of bytes
-pub bytes-of : (s : List ℕ) → ((i : ℕ) → getD s i 0 < 256) → Bytes s
-bytes-of [] f = tt
-bytes-of (b ∷ s) f = (f 0, bytes-of s (λ i. f (suc i)))
 
 -- what the pass over the whole record found, once its case is known
 module _ (s : List ℕ) (ask : Ask) (r : Whole) (w : Looked s ask r) where

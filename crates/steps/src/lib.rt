@@ -1,13 +1,13 @@
 // The two operations that change a record by a step: forward and undo. Each plans on the bytes as they are, and then writes; a refusal writes nothing.
 use reader::Key;
 use reader::Node;
+use shared::NOT_DONE;
+use shared::wide;
 use survey::pass::Whole;
 use survey::pass::survey_all;
 use survey::seen::Ask;
 use survey::seen::Move;
-use survey::seen::NOT_DONE;
 use survey::seen::Seen;
-use survey::seen::wide;
 ghost use mathlib.Core.Path.{_≡_};
 ghost use Prim.Native.Nat.{_+_, _<_, _/_, _%_};
 ghost use lib.ListN.{length, set};

@@ -10,7 +10,7 @@ use lib.Dec.{eqb}
 use Rattle.ccsk.specs.Term.{Co, On}
 use Rattle.moves.specs.Choose.{forward-choice}
 use Rattle.moves.specs.Move.{step, stuck, own, overPrefix, joinedIf, hiddenIf}
-use Rattle.survey.specs.Seen.{Tells}
+use Rattle.shared.specs.Tells.{Tells}
 
 -- which node a forward step asks for
 pub chosen-at-p : (p q n k : ℕ) → n ≡ p → true ≡ forward-choice p q n k
@@ -36,37 +36,6 @@ over-stuck true true done true a = refl
 over-stuck true true done false a = refl
 over-stuck true false done b a = refl
 over-stuck false may done b a = refl
-
--- complementary labels: the complement adds or subtracts 128, and tau has none
-pub co-none : (l k : ℕ) → l ≡ 0 → ¬ Co l k
-co-none l k e (inl c) = omega arith
-co-none l k e (inr c) = omega arith
-
-pub co-middle : (l k : ℕ) → l ≡ 128 → ¬ Co l k
-co-middle l k e (inl c) = omega arith
-co-middle l k e (inr c) = omega arith
-
-pub co-name : (l k : ℕ) → l ≢ 0 → l < 128 → Tells (eqb k (l + 128)) (Co l k)
-co-name l k f h = pick (ℕ-discrete k (l + 128))
-  where
-    pick : Dec (k ≡ l + 128) → Tells (eqb k (l + 128)) (Co l k)
-    pick (yes e) = rw (eq-eqb k (l + 128) e) (inl ((omega arith, omega arith), e))
-    pick (no g) = rw (ne-eqb k (l + 128) g) out
-      where
-        out : ¬ Co l k
-        out (inl c) = g (c .1)
-        out (inr c) = omega arith
-
-pub co-coname : (l k : ℕ) → l ≢ 128 → 128 ≤ l → l ≤ 255 → Tells (eqb k (l - 128)) (Co l k)
-co-coname l k f h b = pick (ℕ-discrete k (l - 128))
-  where
-    pick : Dec (k ≡ l - 128) → Tells (eqb k (l - 128)) (Co l k)
-    pick (yes e) = rw (eq-eqb k (l - 128) e) (inr ((omega arith, omega arith), omega arith))
-    pick (no g) = rw (ne-eqb k (l - 128) g) out
-      where
-        out : ¬ Co l k
-        out (inl c) = omega arith
-        out (inr c) = g (omega arith)
 
 -- labels on a channel
 pub on-name : (a l : ℕ) → a ≢ 0 → a ≤ 127 → l ≡ a → On a l

@@ -24,11 +24,6 @@ abbrev pub pick : {A : Type 0} → Bool → A → A → A
 pick true a b = a
 pick false a b = b
 
--- a test answers whether the statement holds
-abbrev pub Tells : Bool → Type 0 → Type 0
-Tells true A = A
-Tells false A = ¬ A
-
 -- the prefixes that are chosen, and the keys with which a chosen one may step: any for an undo, 0 for a forward step
 abbrev pub choiceOf : Ask → Node → Key → Bool
 choiceOf ask n k = pick (ask .undo) (undo-choice (ask .key) n k) (forward-choice (ask .p) (ask .q) n k)

@@ -1,7 +1,6 @@
 // What is found of a node, from what is found of its children.
 use crate::seen::Ask;
 use crate::seen::Move;
-use crate::seen::NOT_DONE;
 use crate::seen::Seen;
 use crate::seen::is_chosen;
 use crate::seen::may_step;
@@ -9,22 +8,12 @@ use crate::seen::over_choice;
 use crate::seen::over_parallel;
 use crate::seen::over_prefix;
 use crate::seen::over_restriction;
-ghost use mathlib.Core.Path.{_≡_};
-ghost use mathlib.Core.Bool.{_||_};
+use shared::NOT_DONE;
+use shared::either;
 ghost use Prim.Native.Nat.{ℕ, _+_, _<_};
 ghost use Rattle.ccsk.specs.Term.{nil};
 ghost use Rattle.survey.specs.Seen.{Found};
 ghost use Rattle.survey.specs.Over.{OverPrefix, OverRestriction, MoveOfTwo, OverTwo};
-
-// Whether at least one of the two holds.
-pub fn either(a: bool, b: bool) -> bool
-    ensures { λ r. ⌜ r ≡ (a || b) ⌝ }
-{
-    if a {
-        return true;
-    }
-    b
-}
 
 // What is found of a nil.
 pub fn at_nil() -> Seen

@@ -5,8 +5,6 @@ use crate::part::at_restriction;
 use crate::part::at_two;
 use crate::seen::Ask;
 use crate::seen::Seen;
-use crate::seen::narrow;
-use crate::seen::wide;
 use reader::DEPTH;
 use reader::Head;
 use reader::NO_RECORD;
@@ -15,11 +13,13 @@ use reader::OVER_LIMIT;
 use reader::PARALLEL;
 use reader::PREFIX;
 use reader::node_at;
+use shared::key_of;
+use shared::narrow;
+use shared::wide;
 ghost use mathlib.Core.Path.{_≡_};
 ghost use Prim.Native.Nat.{_+_, _*_, _≤_, _<_};
 ghost use lib.ListN.{length};
 ghost use Rattle.format.specs.Limits.{node-limit};
-ghost use Rattle.format.specs.Read.{keyOf};
 ghost use Rattle.survey.specs.Over.{OverOne};
 ghost use Rattle.survey.specs.Survey.{Surveyed, Looked};
 
@@ -33,13 +33,6 @@ pub enum Outcome {
 pub enum Whole {
     Refused(u8),
     Seen(Seen),
-}
-
-// The key whose two bytes these are.
-pub fn key_of(high: u8, low: u8) -> u16
-    ensures { λ r. ⌜ r ≡ keyOf high low ⌝ }
-{
-    high as u16 * 256 + low as u16
 }
 
 // What is found of the prefix or the restriction at node n, whose bytes begin at `at`. The caller has seen that its body stands there.

@@ -1,19 +1,14 @@
 // What one pass finds of a part of a record, and how the moves of its parts combine at each node.
-ghost use Prim.Native.Nat.{_<_};
+use reader::LAST_NAME;
+use shared::CO;
+use shared::NOT_DONE;
+use shared::TAU;
+use shared::complementary;
 ghost use mathlib.Core.Path.{_≡_};
 ghost use Rattle.moves.specs.Move.{overPrefix, overChoice, overParallel, overRestriction};
-ghost use Rattle.ccsk.specs.Term.{Co, On};
-ghost use Rattle.survey.specs.Seen.{moveOf, choiceOf, mayOf, Tells};
-
-// Labels (01, The record): tau, the greatest name, and what a co-name adds to its name (128 itself is no action).
-const TAU: u8 = 0;
-
-const LAST_NAME: u8 = 127;
-
-const CO: u8 = 128;
-
-// The key of a prefix that is not done.
-pub const NOT_DONE: u16 = 0;
+ghost use Rattle.ccsk.specs.Term.{On};
+ghost use Rattle.shared.specs.Tells.{Tells};
+ghost use Rattle.survey.specs.Seen.{moveOf, choiceOf, mayOf};
 
 // The chosen prefixes of a part: none is there; all that are there step together, with this label; or they do not.
 pub enum Move {
@@ -40,21 +35,6 @@ pub struct Seen {
     pub first: u16,
     pub second: u16,
     pub moved: Move,
-}
-
-// A 16-bit number as an index.
-pub fn wide(x: u16) -> usize
-    ensures { λ r. ⌜ r ≡ x ⌝ }
-{
-    x as usize
-}
-
-// An index that fits 16 bits: findings are kept small, since each level of the pass holds some.
-pub fn narrow(x: usize) -> u16
-    requires { ⌜ x < 65536 ⌝ }
-    ensures { λ r. ⌜ r ≡ x ⌝ }
-{
-    x as u16
 }
 
 // Whether the prefix at node n with this key is one that the step asked about takes.
@@ -111,22 +91,6 @@ pub fn over_prefix(chosen: bool, may: bool, done: bool, any: bool, action: u8, b
         }
         Move::Stuck => Move::Stuck,
     }
-}
-
-// Whether the two labels are a name and its co-name.
-pub fn complementary(l: u8, k: u8) -> bool
-    ensures { λ r. ⌜ Tells r (Co l k) ⌝ }
-{
-    if l == TAU {
-        return false;
-    }
-    if l < CO {
-        return k == l + CO;
-    }
-    if l == CO {
-        return false;
-    }
-    k == l - CO
 }
 
 // Whether the label is this name or its co-name. What is no name has no label on it.

@@ -22,10 +22,10 @@ use Rattle.rank.proofs.Ranks.{rank-once, rank-less, rank-counts}
 use Rattle.lasts.specs.Last.{Last, keep, only, Ready}
 use Rattle.lasts.proofs.Nodes.{only-append}
 use Rattle.lasts.proofs.Ready.{ready-count}
-use Rattle.survey.specs.Seen.{Tells}
+use Rattle.shared.specs.Tells.{Tells}
 use Rattle.undos.specs.Gather.{rows}
 use Rattle.undos.proofs.Rows.{rows-at, rows-length}
-use Rattle.undos.specs.Group.{Empty, Small, Marks, times, bumped, capped, Counted, AllIn, Standing, Standing.once, Standing.twice, Standing.never, Standing.half, Standing.ready, Settled}
+use Rattle.undos.specs.Group.{Fit, Empty, Small, Marks, times, bumped, capped, Counted, AllIn, Standing, Standing.once, Standing.twice, Standing.never, Standing.half, Standing.ready, Settled}
 
 true-false : {A : Type 0} → _≡_ {A = Bool} true false → A
 true-false e = absurd (let z : _≡_ {A = ℕ} 0 1 = cc in omega arith)
@@ -181,10 +181,6 @@ module _ (rs : List Last) (k : ℕ) (e : Last) where
   met-over (half h g) p q r i = absurd (r refl)
   met-over {c = c} {x = x} (ready w g) p q r i = never {c = c} {x = x ++ (e ∷ [])} (λ y v. omega (arith, ready-count c x w, ready-count c ((x ++ (e ∷ [])) ++ y) v, length-append (x ++ (e ∷ [])) y, length-append x (e ∷ [])))
 
--- at the end of a loop
-pub ends-at : (i n : ℕ) → i ≤ n → (i < n → ⊥) → i ≡ n
-ends-at i n h g = omega arith
-
 pub marks-set : (x s : List ℕ) (i n : ℕ) → i ≡ n → length s ≡ 8192 → ((k : Key) → k < 65536 → (member s k ≡ true) ↔ In k (take i x)) → Marks (take n x) s
 marks-set x s i n e w f = rw (← e) (record { whole = w; marked = f })
 
@@ -197,17 +193,18 @@ rank-index x s n k r l h f w b e q = omega (arith, rank-within s k n (rw (length
 
 -- the last in a key's slot, beside the last at row i
 module _ (ks as′ ss : List ℕ) (p : length ks ≡ node-limit) (q : length as′ ≡ node-limit) (r : length ss ≡ node-limit) (j w i : ℕ) (e : w ≡ j) where
-  pub pair-fits : (b : Bool) → Tells b (Co (getD as′ w 0) (getD as′ i 0)) → b ≡ true → getD ss w 0 ≡ getD ss i 0 → (d : Last) → j < node-limit
+  pub pair-fits : (b : Bool) → Tells b (Fit as′ ss w i) → b ≡ true → (d : Last) → j < node-limit
       → Co (getD (rows ks as′ ss) j d .action) (getD as′ i 0) × (getD (rows ks as′ ss) j d .scope ≡ getD ss i 0)
-  pair-fits b t z g d h = rw (rows-at node-limit ks as′ ss j d p q r h) (rw (← e) (subst (λ (x : Bool). Tells x (Co (getD as′ w 0) (getD as′ i 0))) z t, g))
+  pair-fits b t z d h = rw (rows-at node-limit ks as′ ss j d p q r h) (rw (← e) (subst (λ (x : Bool). Tells x (Fit as′ ss w i)) z t))
 
-  pub pair-labels : (b : Bool) → Tells b (Co (getD as′ w 0) (getD as′ i 0)) → b ≡ false → (d : Last) → j < node-limit
+  pub pair-apart : (b : Bool) → Tells b (Fit as′ ss w i) → b ≡ false → (d : Last) → j < node-limit
       → ¬ (Co (getD (rows ks as′ ss) j d .action) (getD as′ i 0) × (getD (rows ks as′ ss) j d .scope ≡ getD ss i 0))
-  pair-labels b t z d h = rw (rows-at node-limit ks as′ ss j d p q r h) (rw (← e) (λ v. subst (λ (x : Bool). Tells x (Co (getD as′ w 0) (getD as′ i 0))) z t (v .0)))
+  pair-apart b t z d h = rw (rows-at node-limit ks as′ ss j d p q r h) (rw (← e) (subst (λ (x : Bool). Tells x (Fit as′ ss w i)) z t))
 
-  pub pair-scopes : getD ss w 0 ≢ getD ss i 0 → (d : Last) → j < node-limit
-      → ¬ (Co (getD (rows ks as′ ss) j d .action) (getD as′ i 0) × (getD (rows ks as′ ss) j d .scope ≡ getD ss i 0))
-  pair-scopes g d h = rw (rows-at node-limit ks as′ ss j d p q r h) (rw (← e) (λ v. g (v .1)))
+-- two lasts of one scope fit if their actions do
+pub fit-labels : (as′ ss : List ℕ) (j i : ℕ) (b : Bool) → getD ss j 0 ≡ getD ss i 0 → Tells b (Co (getD as′ j 0) (getD as′ i 0)) → Tells b (Fit as′ ss j i)
+fit-labels as′ ss j i true e t = (t, e)
+fit-labels as′ ss j i false e t = λ f. t (f .0)
 
 -- a row in a slot is within the arrays
 pub half-within : {rs : List Last} {k c st j : ℕ} {x : List Last} → Standing rs k c x st j → st ≡ 4 → j < node-limit

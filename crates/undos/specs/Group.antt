@@ -7,7 +7,7 @@ use Prim.Native.Nat.{ℕ, zero, suc, _+_, _<_}
 use lib.Dec.{eqb, ltb}
 use lib.ListN.{length, getD}
 use Rattle.ccsk.specs.Numbers.{In}
-use Rattle.ccsk.specs.Term.{Key}
+use Rattle.ccsk.specs.Term.{Key, Co}
 use Rattle.format.specs.Limits.{node-limit}
 use Rattle.keyset.specs.Set.{member}
 use Rattle.rank.specs.Rank.{one-more, rank}
@@ -56,6 +56,10 @@ Counted s x states = (k : Key) → k < 65536 → member s k ≡ true → getD st
 abbrev pub AllIn : List ℕ → List Last → Type 0
 AllIn s [] = Unit {0}
 AllIn s (e ∷ x) = ((e .key < 65536) × (member s (e .key) ≡ true)) × AllIn s x
+
+-- the lasts at the rows j and i have complementary actions and one scope
+abbrev pub Fit : List ℕ → List ℕ → ℕ → ℕ → Type 0
+Fit actions scopes j i = Co (getD actions j 0) (getD actions i 0) × (getD scopes j 0 ≡ getD scopes i 0)
 
 -- Of a key k that stands c times and has the lasts x so far, this is its state and its slot.
 pub data Standing (rows : List Last) (k : Key) : ℕ → List Last → ℕ → ℕ → Type 0 where

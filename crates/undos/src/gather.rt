@@ -8,28 +8,19 @@ use reader::PREFIX;
 use reader::RESTRICTION;
 use reader::node_at;
 use reader::wide;
-use survey::pass::key_of;
+use shared::NAMES;
+use shared::key_of;
 ghost use mathlib.Core.Path.{_≡_};
-ghost use mathlib.Core.Logic.{_≢_};
-ghost use mathlib.Core.List.{List, [], _++_};
-ghost use Prim.Native.Nat.{ℕ, _+_, _≤_, _<_};
-ghost use lib.ListN.{length, getD, take};
+ghost use Prim.Native.Nat.{_+_, _≤_, _<_};
+ghost use lib.ListN.{length, getD};
 ghost use Rattle.format.specs.Limits.{node-limit};
 ghost use Rattle.undos.specs.Gather.{lent, rows, Enters, OverPrefix, over-two, Sized, Gathers, closed};
-
-// A name and its co-name share a slot of the scopes.
-pub const SLOTS: usize = 128;
 
 // What a pass over the term at a place comes to: a refusal, or where the term ends, how many nodes may still come, and how many keys and
 // lasts are noted now.
 pub enum Outcome {
     Refused(u8),
-    Part {
-        next: usize,
-        left: usize,
-        keys: usize,
-        lasts: usize,
-    },
+    Part(usize, usize, usize, usize),
 }
 
 // What a node leaves behind before its first child is read: how many keys are noted, and the scope that its name had.
@@ -46,7 +37,7 @@ fn enter(
     n: usize,
     keys: usize,
     all: &mut [u16; NODES],
-    scopes: &mut [u16; SLOTS],
+    scopes: &mut [u16; NAMES],
 ) -> Entered
     requires { ⌜ (kind ≡ 1 → at + 3 < length (now s)) × (kind ≡ 4 → at + 1 < length (now s)) ⌝ }
     requires { ⌜ (n < node-limit) × (keys < node-limit) × (length (now all) ≡ node-limit) × (length (now scopes) ≡ 128) ⌝ }
@@ -67,7 +58,7 @@ fn enter(
         };
     }
     if kind == RESTRICTION {
-        let slot = wide(s[at + 1]) % SLOTS;
+        let slot = wide(s[at + 1]) % NAMES;
         let outer = scopes[slot];
         scopes[slot] = (n + 1) as u16;
         return Entered {
@@ -82,11 +73,11 @@ fn enter(
 }
 
 // Leaves a restriction at `at`: its name has the scope that it had before.
-fn close(s: &[u8], at: usize, outer: u16, scopes: &mut [u16; SLOTS])
+fn close(s: &[u8], at: usize, outer: u16, scopes: &mut [u16; NAMES])
     requires { ⌜ (at + 1 < length (now s)) × (length (now scopes) ≡ 128) ⌝ }
     ensures { λ _. ⌜ now (scopes .exit) ≡ closed (getD (now (s .entry)) (at + 1) 0) outer (now (scopes .entry)) ⌝ }
 {
-    let slot = wide(s[at + 1]) % SLOTS;
+    let slot = wide(s[at + 1]) % NAMES;
     scopes[slot] = outer;
 }
 
@@ -101,7 +92,7 @@ fn over_prefix(
     key: &mut [u16; NODES],
     action: &mut [u8; NODES],
     scope: &mut [u16; NODES],
-    scopes: &[u16; SLOTS],
+    scopes: &[u16; NAMES],
 ) -> usize
     requires { ⌜ (at + 3 < length (now s)) × (lasts < node-limit) × (length (now scopes) ≡ 128) ⌝ }
     requires { ⌜ (length (now key) ≡ node-limit) × (length (now action) ≡ node-limit) × (length (now scope) ≡ node-limit) ⌝ }
@@ -114,7 +105,7 @@ fn over_prefix(
     if k == keys {
         key[lasts] = own;
         action[lasts] = s[at + 1];
-        scope[lasts] = scopes[wide(s[at + 1]) % SLOTS];
+        scope[lasts] = scopes[wide(s[at + 1]) % NAMES];
         return lasts + 1;
     }
     l
@@ -148,7 +139,7 @@ pub fn gather(
     key: &mut [u16; NODES],
     action: &mut [u8; NODES],
     scope: &mut [u16; NODES],
-    scopes: &mut [u16; SLOTS],
+    scopes: &mut [u16; NAMES],
 ) -> Outcome
     requires { ⌜ (keys + left ≤ node-limit) × (lasts ≤ keys) ⌝ }
     requires { ⌜ Sized (now scopes) (now all) (now key) (now action) (now scope) ⌝ }
@@ -171,20 +162,15 @@ pub fn gather(
             next,
         } => {
             if children == 0 {
-                return Outcome::Part {
-                    next: next,
-                    left: left - 1,
-                    keys: keys,
-                    lasts: lasts,
-                };
+                return Outcome::Part(next, left - 1, keys, lasts);
             }
-            let entered = enter(s, at, kind, NODES - left, keys, all, scopes);
+            let entry = enter(s, at, kind, NODES - left, keys, all, scopes);
             match gather(
                 s,
                 next,
                 deep - 1,
                 left - 1,
-                entered.keys,
+                entry.keys,
                 lasts,
                 all,
                 key,
@@ -193,39 +179,25 @@ pub fn gather(
                 scopes,
             ) {
                 Outcome::Refused(c) => Outcome::Refused(c),
-                Outcome::Part {
-                    next: second,
-                    left: rest,
-                    keys: k,
-                    lasts: l,
-                } => {
+                Outcome::Part(second, rest, k, l) => {
                     if children == 1 {
                         if kind == PREFIX {
-                            return Outcome::Part {
-                                next: second,
-                                left: rest,
-                                keys: k,
-                                lasts: over_prefix(
-                                    s,
-                                    at,
-                                    entered.keys,
-                                    k,
-                                    lasts,
-                                    l,
-                                    key,
-                                    action,
-                                    scope,
-                                    scopes,
-                                ),
-                            };
+                            let stay = over_prefix(
+                                s,
+                                at,
+                                entry.keys,
+                                k,
+                                lasts,
+                                l,
+                                key,
+                                action,
+                                scope,
+                                scopes,
+                            );
+                            return Outcome::Part(second, rest, k, stay);
                         }
-                        close(s, at, entered.scope, scopes);
-                        return Outcome::Part {
-                            next: second,
-                            left: rest,
-                            keys: k,
-                            lasts: l,
-                        };
+                        close(s, at, entry.scope, scopes);
+                        return Outcome::Part(second, rest, k, l);
                     }
                     match gather(
                         s,
@@ -241,17 +213,10 @@ pub fn gather(
                         scopes,
                     ) {
                         Outcome::Refused(c) => Outcome::Refused(c),
-                        Outcome::Part {
-                            next: end,
-                            left: last,
-                            keys: m,
-                            lasts: n,
-                        } => Outcome::Part {
-                            next: end,
-                            left: last,
-                            keys: m,
-                            lasts: over_two(kind, keys, k, m, lasts, n),
-                        },
+                        Outcome::Part(end, last, m, n) => {
+                            let stay = over_two(kind, keys, k, m, lasts, n);
+                            Outcome::Part(end, last, m, stay)
+                        }
                     }
                 }
             }

@@ -3,16 +3,18 @@ use keyset::BYTES;
 use keyset::add;
 use rank::rank;
 use reader::NODES;
-use survey::seen::complementary;
+use shared::complementary;
+use shared::wide;
 ghost use mathlib.Core.Path.{_≡_};
 ghost use mathlib.Core.List.{List, [], _∷_, _++_};
 ghost use Prim.Native.Nat.{ℕ, _≤_, _<_};
 ghost use lib.ListN.{length, getD, take};
 ghost use Rattle.format.specs.Limits.{node-limit};
+ghost use Rattle.shared.specs.Tells.{Tells};
 ghost use Rattle.rank.specs.Rank.{Ranked};
 ghost use Rattle.lasts.specs.Last.{Last};
 ghost use Rattle.undos.specs.Gather.{rows};
-ghost use Rattle.undos.specs.Group.{Empty, Marks, Counted, Small, Standing, Settled, AllIn, bumped};
+ghost use Rattle.undos.specs.Group.{Empty, Marks, Counted, Small, Standing, Settled, AllIn, Fit, bumped};
 
 // What is known of a key: it stands once, or twice, with no last yet; it cannot be undone; it stands twice and its first last is at the
 // row in its slot; it can be undone, and stands in its slot.
@@ -30,13 +32,6 @@ pub const READY: u8 = 5;
 pub struct Met {
     pub state: u8,
     pub slot: u16,
-}
-
-// A 16-bit number as an index.
-fn wide(x: u16) -> usize
-    ensures { λ r. ⌜ r ≡ x ⌝ }
-{
-    x as usize
 }
 
 // Puts the first n keys into the set, which is empty.
@@ -81,6 +76,17 @@ pub fn tally(
     }
 }
 
+// Whether the lasts at the rows j and i can be the two halves of a step: one scope, complementary actions.
+fn fit_together(action: &[u8; NODES], scope: &[u16; NODES], j: usize, i: usize) -> bool
+    requires { ⌜ (length (now action) ≡ node-limit) × (length (now scope) ≡ node-limit) × (j < node-limit) × (i < node-limit) ⌝ }
+    ensures { λ r. ⌜ Tells r (Fit (now (action .entry)) (now (scope .entry)) j i) ⌝ }
+{
+    if scope[j] == scope[i] {
+        return complementary(action[j], action[i]);
+    }
+    false
+}
+
 // The state and slot of a key after its last at row i.
 fn meet(
     key: &[u16; NODES],
@@ -113,17 +119,10 @@ fn meet(
         };
     }
     if state == HALF {
-        let j = wide(slot);
-        if scope[j] == scope[i] {
-            if complementary(action[j], action[i]) {
-                return Met {
-                    state: READY,
-                    slot: key[i],
-                };
-            }
+        if fit_together(action, scope, wide(slot), i) {
             return Met {
-                state: NEVER,
-                slot: 0,
+                state: READY,
+                slot: key[i],
             };
         }
         return Met {

@@ -1,6 +1,5 @@
 // The undo listing (01, Operations): the keys whose undo is allowed, ascending, into a lent row.
 use crate::gather::Outcome;
-use crate::gather::SLOTS;
 use crate::gather::gather;
 use crate::group::READY;
 use crate::group::mark_all;
@@ -10,6 +9,7 @@ use rank::fill;
 use reader::DEPTH;
 use reader::NO_RECORD;
 use reader::NODES;
+use shared::NAMES;
 ghost use mathlib.Core.Path.{_≡_};
 ghost use mathlib.Core.List.{List, _++_};
 ghost use Prim.Native.Nat.{ℕ, _+_, _≤_, _<_};
@@ -117,7 +117,7 @@ pub fn undo_listing(bytes: &[u8], row: &mut [u16]) -> Rows
     let mut key = [0u16; NODES];
     let mut action = [0u8; NODES];
     let mut scope = [0u16; NODES];
-    let mut scopes = [0u16; SLOTS];
+    let mut scopes = [0u16; NAMES];
     match gather(
         bytes,
         0,
@@ -132,12 +132,7 @@ pub fn undo_listing(bytes: &[u8], row: &mut [u16]) -> Rows
         &mut scopes,
     ) {
         Outcome::Refused(c) => Rows::Refused(c),
-        Outcome::Part {
-            next,
-            left: _,
-            keys,
-            lasts,
-        } => {
+        Outcome::Part(next, _, keys, lasts) => {
             if next < bytes.len() {
                 return Rows::Refused(NO_RECORD);
             }

@@ -14,11 +14,12 @@ use Rattle.causes.specs.Tests as tests
 use Rattle.causes.proofs.Chains.{chain-map}
 use Rattle.causes.proofs.Taking.{linked-above, linked-low}
 use Rattle.causes.proofs.Renaming.{acyclic-columns}
+use Rattle.causes.specs.Columns.{Below, Positive, Square}
 use Rattle.cycles.specs.Graph as graph
 use Rattle.pairs.specs.Rows.{table, rows-of, row, Indexed}
-use Rattle.pairs.specs.Answer.{Below, above, Climbed}
+use Rattle.pairs.specs.Answer.{above, Climbed}
 use Rattle.verdict.specs.Sheet.{Noted}
-use Rattle.pairs.proofs.Tables.{Square, Keys, rows-none, each-placed}
+use Rattle.pairs.proofs.Tables.{rows-none, each-placed}
 
 -- the two columns of a table that matter here
 table-keys : (i : ℕ) (ks acs es ss us : List ℕ) → Square ks acs es ss us → key-column (table i ks acs es ss us) ≡ ks
@@ -112,7 +113,7 @@ module _ (ks acs es ss us first second one two : List ℕ) (q : Square ks acs es
       (λ a m c. a m (chain-map (λ x y. links x y .1) c), λ a m c. a m (chain-map (λ x y. links x y .0) c))
 
 -- what the index notes is as the cycle test wants it
-pub noted : (n : ℕ) (ks us first second : List ℕ) → length first ≡ n → 0 < n → n ≤ 32767 → Keys ks → Below n us → Indexed ks first second → length us ≡ length ks → Noted us first second
+pub noted : (n : ℕ) (ks us first second : List ℕ) → length first ≡ n → 0 < n → n ≤ 32767 → Positive ks → Below n us → Indexed ks first second → length us ≡ length ks → Noted us first second
 noted n ks us first second e s few p b x l = record { alike = x .alike; some = omega arith; few = omega arith; ups-below = rw e b; first-inside = λ k h. let r = placed k h in omega arith; second-inside = λ k h. let z = x .alike in let r = placed k (omega arith) in omega arith; first-root = first-zero; second-root = x .order 0 (omega arith) first-zero }
   where
     placed : (k : ℕ) → k < length first → (getD first k 0 ≤ length us) × (getD second k 0 ≤ length us)

@@ -12,10 +12,11 @@ use Rattle.causes.specs.Entry.{Entry, all}
 use Rattle.causes.specs.Tests as tests
 use Rattle.causes.specs.Tests.{EachKey, AtMostTwo, Complements, Beside, Enclosed, Tested, none-fails, third-fails, fourth-fails, fifth-fails, sixth-fails, seventh-fails}
 use Rattle.causes.proofs.Renaming.{Blind, two-blind, complements-blind, beside-blind, enclosed-blind, each-renamed, acyclic-renamed, all-known}
+use Rattle.causes.specs.Columns.{Below}
 use Rattle.cycles.specs.Graph as graph
 use Rattle.pairs.specs.Rows.{table, rows-of, Indexed}
 use Rattle.pairs.specs.Cause.{Lowest, CauseBelow}
-use Rattle.pairs.specs.Answer.{Below, Climbed}
+use Rattle.pairs.specs.Answer.{Climbed}
 use Rattle.pairs.proofs.Tables.{two-rows, three-rows, lowest-rows}
 use Rattle.verdict.specs.Laid.{Laid}
 use Rattle.verdict.specs.Sheet.{Noted}

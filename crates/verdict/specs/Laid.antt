@@ -5,10 +5,8 @@ use Prim.Native.Nat.{ℕ, _≤_, _<_}
 use Rattle.ccsk.specs.Term.{Term}
 use Rattle.causes.specs.Entry.{all}
 use Rattle.causes.specs.Links.{key-column, renamed}
-use Rattle.causes.proofs.Renaming.{Faithful}
+use Rattle.causes.specs.Columns.{Below, Faithful, Positive, Square}
 use Rattle.pairs.specs.Rows.{table}
-use Rattle.pairs.specs.Answer.{Below}
-use Rattle.pairs.proofs.Tables.{Square, Keys}
 
 -- The columns of keys, actions, ends, scopes and keys right above are the entries of t, whose keys f renames to numbers from 1 to below n.
 pub record Laid (t : Term) (n : ℕ) (ks acs es ss us : List ℕ) : Type 0 where
@@ -17,7 +15,7 @@ pub record Laid (t : Term) (n : ℕ) (ks acs es ss us : List ℕ) : Type 0 where
   pub faithful : Faithful name (key-column (all t))
   pub square : Square ks acs es ss us
   pub rows : table 0 ks acs es ss us ≡ renamed name (all t)
-  pub keys : Keys ks
+  pub keys : Positive ks
   pub keys-below : Below n ks
   pub ups-below : Below n us
   pub some : 0 < n

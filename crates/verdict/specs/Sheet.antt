@@ -5,10 +5,11 @@ use mathlib.Core.List.{List}
 use mathlib.Core.Bool.{Bool, true}
 use Prim.Native.Nat.{ℕ, _+_, _≤_, _<_}
 use lib.ListN.{length, getD}
+use Rattle.causes.specs.Columns.{Below}
 use Rattle.cycles.specs.Graph.{Acyclic}
 use Rattle.pairs.specs.Rows.{rows-of, Indexed}
 use Rattle.pairs.specs.Cause.{CauseBelow}
-use Rattle.pairs.specs.Answer.{Zero, Below, Climbed}
+use Rattle.pairs.specs.Answer.{Zero, Climbed}
 
 -- columns of the same length, whose keys have a place in both lists of rows; nothing is noted yet
 pub record Blank (ks acs es ss first second : List ℕ) : Type 0 where

@@ -3,7 +3,7 @@ use mathlib.Core.Path.{refl, sym, ap, _∙_}
 use native.Mathlib.Omega.{arith}
 use borrow.Author.Needs.{needs}
 use lib.ListN.{length, getD}
-use Rattle.format.proofs.Flat.{childCount}
+use Rattle.format.specs.Kinds.{childCount}
 use Rattle.lay.specs.Sheet.{sheet}
 use Rattle.lay.proofs.Places.{inside, ready-inside, ready-kind, ready-ends, ready-key, ready-name, ready-node, ready-row, ready-below, ready-marked}
 use Rattle.lay.proofs.Laying.{noted, renearest, sized-noted, sized-renearest, lays-nil, lays-unmarked, lays-marked, lays-restriction, ready-second, lays-two, after-note, sized-same, lays-same, laid-end}

@@ -2,6 +2,7 @@
 use borrow.Author.Needs.{needs}
 use borrow.Author.Tests.{not-true, not-false}
 use native.Mathlib.Omega.{arith}
+use Rattle.shared.proofs.Labels.{tells-iff}
 use Rattle.pairs.proofs.Lowest.{no-rows, lone-open, lone-hidden, pair-differs, pair-nested, pair-open, pair-hidden}
 use Rattle.pairs.proofs.cause.Statement.{statement}
 use Rattle.pairs.proofs.cause.Tie as tie
@@ -43,7 +44,7 @@ complementary-requires : tie.Need-complementary-requires
 complementary-requires c κs = search needs
 
 returns-4 : tie.Need-returns-4
-returns-4 c = pair-differs (c .before .before .before .before .before .before .before .before .before .before .before .args .actions .now) (c .before .before .before .before .before .before .before .before .before .before .before .args .ends .now) (c .before .before .before .before .before .before .before .before .before .before .before .args .scopes .now) (c .before .before .before .before .before .before .before .before .before .before .before .args .a) (c .before .before .before .before .before .before .before .before .before .before .before .args .b) (c .before .before .before .before .before .before .wide .result) (c .before .before .before .before .before .before .wide .ensures) (c .before .before .before .before .before .before .before .if1 .left) (c .before .before .before .before .wide2 .result) (c .before .before .before .before .wide2 .ensures) (c .before .before .before .before .before .if2 .left) (c .before .complementary .result) (c .before .complementary .ensures) (not-true (c .before .complementary .result) (c .if4 .taken))
+returns-4 c = pair-differs (c .before .before .before .before .before .before .before .before .before .before .before .args .actions .now) (c .before .before .before .before .before .before .before .before .before .before .before .args .ends .now) (c .before .before .before .before .before .before .before .before .before .before .before .args .scopes .now) (c .before .before .before .before .before .before .before .before .before .before .before .args .a) (c .before .before .before .before .before .before .before .before .before .before .before .args .b) (c .before .before .before .before .before .before .wide .result) (c .before .before .before .before .before .before .wide .ensures) (c .before .before .before .before .before .before .before .if1 .left) (c .before .before .before .before .wide2 .result) (c .before .before .before .before .wide2 .ensures) (c .before .before .before .before .before .if2 .left) (c .before .complementary .result) (tells-iff _ (c .before .complementary .ensures)) (not-true (c .before .complementary .result) (c .if4 .taken))
 
 mul-wide : tie.Need-mul-wide
 mul-wide c = search needs
@@ -55,7 +56,7 @@ wide-requires-3 : tie.Need-wide-requires-3
 wide-requires-3 c κs = search needs
 
 returns-5 : tie.Need-returns-5
-returns-5 c = pair-nested (c .before .before .before .before .before .before .before .before .before .before .before .before .before .before .args .actions .now) (c .before .before .before .before .before .before .before .before .before .before .before .before .before .before .args .ends .now) (c .before .before .before .before .before .before .before .before .before .before .before .before .before .before .args .scopes .now) (c .before .before .before .before .before .before .before .before .before .before .before .before .before .before .args .a) (c .before .before .before .before .before .before .before .before .before .before .before .before .before .before .args .b) (c .before .before .before .before .before .before .before .before .before .wide .result) (c .before .before .before .before .before .before .before .before .before .wide .ensures) (c .before .before .before .before .before .before .before .before .before .before .if1 .left) (c .before .before .before .before .before .before .before .wide2 .result) (c .before .before .before .before .before .before .before .wide2 .ensures) (c .before .before .before .before .before .before .before .before .if2 .left) (c .before .before .before .before .complementary .result) (c .before .before .before .before .complementary .ensures) (not-false (c .before .before .before .before .complementary .result) (c .before .before .before .if4 .left)) (c .before .wide3 .result) (c .before .wide3 .ensures) (omega arith)
+returns-5 c = pair-nested (c .before .before .before .before .before .before .before .before .before .before .before .before .before .before .args .actions .now) (c .before .before .before .before .before .before .before .before .before .before .before .before .before .before .args .ends .now) (c .before .before .before .before .before .before .before .before .before .before .before .before .before .before .args .scopes .now) (c .before .before .before .before .before .before .before .before .before .before .before .before .before .before .args .a) (c .before .before .before .before .before .before .before .before .before .before .before .before .before .before .args .b) (c .before .before .before .before .before .before .before .before .before .wide .result) (c .before .before .before .before .before .before .before .before .before .wide .ensures) (c .before .before .before .before .before .before .before .before .before .before .if1 .left) (c .before .before .before .before .before .before .before .wide2 .result) (c .before .before .before .before .before .before .before .wide2 .ensures) (c .before .before .before .before .before .before .before .before .if2 .left) (c .before .before .before .before .complementary .result) (tells-iff _ (c .before .before .before .before .complementary .ensures)) (not-false (c .before .before .before .before .complementary .result) (c .before .before .before .if4 .left)) (c .before .wide3 .result) (c .before .wide3 .ensures) (omega arith)
 
 mul-if6 : tie.Need-mul-if6
 mul-if6 c = search needs
@@ -70,10 +71,10 @@ shared-slice-read-if6-2 : tie.Need-shared-slice-read-if6-2
 shared-slice-read-if6-2 c = search needs
 
 returns-6 : tie.Need-returns-6
-returns-6 c = pair-open (c .before .before .before .before .before .before .before .before .before .before .before .before .before .before .before .before .before .args .actions .now) (c .before .before .before .before .before .before .before .before .before .before .before .before .before .before .before .before .before .args .ends .now) (c .before .before .before .before .before .before .before .before .before .before .before .before .before .before .before .before .before .args .scopes .now) (c .before .before .before .before .before .before .before .before .before .before .before .before .before .before .before .before .before .args .a) (c .before .before .before .before .before .before .before .before .before .before .before .before .before .before .before .before .before .args .b) (c .before .before .before .before .before .before .before .before .before .before .before .before .wide .result) (c .before .before .before .before .before .before .before .before .before .before .before .before .wide .ensures) (c .before .before .before .before .before .before .before .before .before .before .before .before .before .if1 .left) (c .before .before .before .before .before .before .before .before .before .before .wide2 .result) (c .before .before .before .before .before .before .before .before .before .before .wide2 .ensures) (c .before .before .before .before .before .before .before .before .before .before .before .if2 .left) (c .before .before .before .before .before .before .before .complementary .result) (c .before .before .before .before .before .before .before .complementary .ensures) (not-false (c .before .before .before .before .before .before .before .complementary .result) (c .before .before .before .before .before .before .if4 .left)) (c .before .before .before .before .wide3 .result) (c .before .before .before .before .wide3 .ensures) (omega arith) (c .if6 .taken)
+returns-6 c = pair-open (c .before .before .before .before .before .before .before .before .before .before .before .before .before .before .before .before .before .args .actions .now) (c .before .before .before .before .before .before .before .before .before .before .before .before .before .before .before .before .before .args .ends .now) (c .before .before .before .before .before .before .before .before .before .before .before .before .before .before .before .before .before .args .scopes .now) (c .before .before .before .before .before .before .before .before .before .before .before .before .before .before .before .before .before .args .a) (c .before .before .before .before .before .before .before .before .before .before .before .before .before .before .before .before .before .args .b) (c .before .before .before .before .before .before .before .before .before .before .before .before .wide .result) (c .before .before .before .before .before .before .before .before .before .before .before .before .wide .ensures) (c .before .before .before .before .before .before .before .before .before .before .before .before .before .if1 .left) (c .before .before .before .before .before .before .before .before .before .before .wide2 .result) (c .before .before .before .before .before .before .before .before .before .before .wide2 .ensures) (c .before .before .before .before .before .before .before .before .before .before .before .if2 .left) (c .before .before .before .before .before .before .before .complementary .result) (tells-iff _ (c .before .before .before .before .before .before .before .complementary .ensures)) (not-false (c .before .before .before .before .before .before .before .complementary .result) (c .before .before .before .before .before .before .if4 .left)) (c .before .before .before .before .wide3 .result) (c .before .before .before .before .wide3 .ensures) (omega arith) (c .if6 .taken)
 
 returns-7 : tie.Need-returns-7
-returns-7 c = pair-hidden (c .before .before .before .before .before .before .before .before .before .before .before .before .before .before .before .before .before .args .actions .now) (c .before .before .before .before .before .before .before .before .before .before .before .before .before .before .before .before .before .args .ends .now) (c .before .before .before .before .before .before .before .before .before .before .before .before .before .before .before .before .before .args .scopes .now) (c .before .before .before .before .before .before .before .before .before .before .before .before .before .before .before .before .before .args .a) (c .before .before .before .before .before .before .before .before .before .before .before .before .before .before .before .before .before .args .b) (c .before .before .before .before .before .before .before .before .before .before .before .before .wide .result) (c .before .before .before .before .before .before .before .before .before .before .before .before .wide .ensures) (c .before .before .before .before .before .before .before .before .before .before .before .before .before .if1 .left) (c .before .before .before .before .before .before .before .before .before .before .wide2 .result) (c .before .before .before .before .before .before .before .before .before .before .wide2 .ensures) (c .before .before .before .before .before .before .before .before .before .before .before .if2 .left) (c .before .before .before .before .before .before .before .complementary .result) (c .before .before .before .before .before .before .before .complementary .ensures) (not-false (c .before .before .before .before .before .before .before .complementary .result) (c .before .before .before .before .before .before .if4 .left)) (c .before .before .before .before .wide3 .result) (c .before .before .before .before .wide3 .ensures) (omega arith) (c .if6 .left)
+returns-7 c = pair-hidden (c .before .before .before .before .before .before .before .before .before .before .before .before .before .before .before .before .before .args .actions .now) (c .before .before .before .before .before .before .before .before .before .before .before .before .before .before .before .before .before .args .ends .now) (c .before .before .before .before .before .before .before .before .before .before .before .before .before .before .before .before .before .args .scopes .now) (c .before .before .before .before .before .before .before .before .before .before .before .before .before .before .before .before .before .args .a) (c .before .before .before .before .before .before .before .before .before .before .before .before .before .before .before .before .before .args .b) (c .before .before .before .before .before .before .before .before .before .before .before .before .wide .result) (c .before .before .before .before .before .before .before .before .before .before .before .before .wide .ensures) (c .before .before .before .before .before .before .before .before .before .before .before .before .before .if1 .left) (c .before .before .before .before .before .before .before .before .before .before .wide2 .result) (c .before .before .before .before .before .before .before .before .before .before .wide2 .ensures) (c .before .before .before .before .before .before .before .before .before .before .before .if2 .left) (c .before .before .before .before .before .before .before .complementary .result) (tells-iff _ (c .before .before .before .before .before .before .before .complementary .ensures)) (not-false (c .before .before .before .before .before .before .before .complementary .result) (c .before .before .before .before .before .before .if4 .left)) (c .before .before .before .before .wide3 .result) (c .before .before .before .before .wide3 .ensures) (omega arith) (c .if6 .left)
 
 pub cause-spec : {M : Type 1} → statement M
 cause-spec =

@@ -13,8 +13,8 @@ use Rattle.reader.proofs.node_at.Reads as node-at-reads
 use Rattle.survey.proofs.part.at_nil.Reads as at-nil-reads
 use Rattle.survey.proofs.part.at_two.Reads as at-two-reads
 use Rattle.survey.proofs.pass.at_one.Reads as at-one-reads
-use Rattle.survey.proofs.seen.narrow.Reads as narrow-reads
-use Rattle.survey.proofs.seen.wide.Reads as wide-reads
+use Rattle.shared.proofs.narrow.Reads as narrow-reads
+use Rattle.shared.proofs.wide.Reads as wide-reads
 use Rattle.survey.proofs.pass.+survey.{statement}
 use Rattle.survey.proofs.pass.+survey.Tie.{close}
 

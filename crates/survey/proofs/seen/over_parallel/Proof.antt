@@ -1,5 +1,5 @@
 -- `over_parallel` meets its contract: each case of the two moves computes to the same case of the definition; two steps join if the test on labels holds.
-use Rattle.ccsk.proofs.Decide.{co?}
+use Rattle.ccsk.specs.Decide.{co?}
 use Rattle.survey.proofs.Tests.{joined-yes, joined-no}
 use borrow.Author.Needs.{needs}
 use Rattle.survey.proofs.seen.over_parallel.Statement.{statement}

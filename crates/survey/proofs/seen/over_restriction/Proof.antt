@@ -1,5 +1,5 @@
 -- `over_restriction` meets its contract: each case of the move below computes to the same case of the definition; the test on the label decides a step.
-use Rattle.ccsk.proofs.Decide.{on?}
+use Rattle.ccsk.specs.Decide.{on?}
 use Rattle.survey.proofs.Tests.{hidden-yes, hidden-no}
 use borrow.Author.Needs.{needs}
 use Rattle.survey.proofs.seen.over_restriction.Statement.{statement}

@@ -50,8 +50,8 @@ gather-enum-told t c = search needs
 gather-enum-known-kind : (t : ℕ) → gather-lts.Need-enum-known-kind (node-at-reads.Asked, node-at-reads.Learnt, enter-reads.Asked, enter-reads.Learnt, gather-below t, gather.Post, over-prefix-reads.Asked, over-prefix-reads.Learnt, close-reads.Asked, close-reads.Learnt, over-two-reads.Asked, over-two-reads.Learnt) (gather-at t) gather.Post
 gather-enum-known-kind t c = search needs
 
-gather-sub-t31 : (t : ℕ) → gather-lts.Need-sub-t31 (node-at-reads.Asked, node-at-reads.Learnt, enter-reads.Asked, enter-reads.Learnt, gather-below t, gather.Post, over-prefix-reads.Asked, over-prefix-reads.Learnt, close-reads.Asked, close-reads.Learnt, over-two-reads.Asked, over-two-reads.Learnt) (gather-at t) gather.Post
-gather-sub-t31 t c = search needs
+gather-sub-t33 : (t : ℕ) → gather-lts.Need-sub-t33 (node-at-reads.Asked, node-at-reads.Learnt, enter-reads.Asked, enter-reads.Learnt, gather-below t, gather.Post, over-prefix-reads.Asked, over-prefix-reads.Learnt, close-reads.Asked, close-reads.Learnt, over-two-reads.Asked, over-two-reads.Learnt) (gather-at t) gather.Post
+gather-sub-t33 t c = search needs
 
 gather-returns-4 : (t : ℕ) → gather-lts.Need-returns-4 (node-at-reads.Asked, node-at-reads.Learnt, enter-reads.Asked, enter-reads.Learnt, gather-below t, gather.Post, over-prefix-reads.Asked, over-prefix-reads.Learnt, close-reads.Asked, close-reads.Learnt, over-two-reads.Asked, over-two-reads.Learnt) (gather-at t) gather.Post
 gather-returns-4 t c = let H = headed _ _ _ (c .before .before .before .before .node-at .ensures) _ _ _ (c .before .before .kind .given .1) in gathers-nil (c .before .before .before .before .before .before .before .before .before .args .s .now) (c .before .before .before .before .before .before .before .before .before .args .at) (c .before .before .before .before .before .before .before .before .before .args .deep) (c .before .before .before .before .before .before .before .before .before .args .left) (c .before .before .before .before .before .before .before .if1 .left) (c .before .before .before .before .before .before .if2 .left) (c .before .before .before .before .before .if3 .left) _ _ _ H (c .before .before .before .before .before .before .before .before .before .args .keys) (c .before .before .before .before .before .before .before .before .before .args .lasts) (c .before .before .before .before .before .before .before .before .before .pre .1 .0 .0) _ _ (c .before .before .before .before .before .before .before .before .before .pre .1 .1) (c .if4 .taken)
@@ -126,7 +126,7 @@ pub +gather-spec : {M : Type 1} → statement M
     (gather-node-at-requires t)
     (gather-enum-told t)
     (gather-enum-known-kind t)
-    (gather-sub-t31 t)
+    (gather-sub-t33 t)
     (gather-returns-4 t)
     (gather-sub-enter t)
     (gather-enter-requires t)

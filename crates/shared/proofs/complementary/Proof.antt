@@ -1,9 +1,9 @@
--- `complementary` meets its contract: a law of Tests for each range of the first label.
+-- `complementary` meets its contract: a law of Labels for each range of the first label.
 use native.Mathlib.Omega.{arith}
-use Rattle.survey.proofs.Tests.{co-none, co-name, co-middle, co-coname}
+use Rattle.shared.proofs.Labels.{co-none, co-name, co-middle, co-coname}
 use borrow.Author.Needs.{needs}
-use Rattle.survey.proofs.seen.complementary.Statement.{statement}
-use Rattle.survey.proofs.seen.complementary.Tie as tie
+use Rattle.shared.proofs.complementary.Statement.{statement}
+use Rattle.shared.proofs.complementary.Tie as tie
 
 returns : tie.Need-returns
 returns c = co-none _ _ (c .if1 .taken)

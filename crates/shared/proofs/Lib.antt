@@ -1,0 +1,2 @@
+-- Why the shared tests answer what they say.
+pub mod Labels

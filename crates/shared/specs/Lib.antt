@@ -1,0 +1,2 @@
+-- What a test answers.
+pub mod Tells
