@@ -68,7 +68,9 @@ fn due_at(bytes: &[u8], c: Cursor) -> Head
     if bytes.len() <= at {
         return Head::Bad;
     }
-    reader::node_at(bytes, at)
+    let bodies = reader::BODY;
+    let families = reader::CHILDREN;
+    reader::node_at(bytes, at, &bodies, &families)
 }
 
 // The node that the cursor stands at.

@@ -2,6 +2,7 @@
 use reader::CHOICE;
 use reader::DEPTH;
 use reader::Head;
+use reader::KINDS;
 use reader::NO_RECORD;
 use reader::NODES;
 use reader::OVER_LIMIT;
@@ -13,6 +14,7 @@ ghost use Prim.Native.Nat.{_+_, _<_};
 ghost use mathlib.Core.Path.{_≡_};
 ghost use mathlib.Core.Bool.{not, _&&_};
 ghost use lib.ListN.{length};
+ghost use Rattle.reader.specs.Head.{Tables};
 ghost use Rattle.folds.specs.Folded.{OfNil, OverOne, OverTwo, Folded, Looked};
 
 // Of a part of a record: whether a prefix holds a key, and whether the conditions 1 and 2 hold.
@@ -101,7 +103,15 @@ fn at_two(choice: bool, one: Marks, two: Marks) -> Marks
 }
 
 // The term at `at`: at most `deep` levels and `left` nodes may come.
-fn fold(s: &[u8], at: usize, deep: usize, left: usize) -> Outcome
+fn fold(
+    s: &[u8],
+    at: usize,
+    deep: usize,
+    left: usize,
+    bodies: &[usize; KINDS],
+    families: &[usize; KINDS],
+) -> Outcome
+    requires { ⌜ Tables (now bodies) (now families) ⌝ }
     ensures { λ r. ⌜ Folded (now (s .entry)) at deep left r ⌝ }
 {
     if s.len() <= at {
@@ -113,7 +123,7 @@ fn fold(s: &[u8], at: usize, deep: usize, left: usize) -> Outcome
     if left == 0 {
         return Outcome::Refused(OVER_LIMIT);
     }
-    match node_at(s, at) {
+    match node_at(s, at, bodies, families) {
         Head::Bad => Outcome::Refused(NO_RECORD),
         Head::Node {
             kind,
@@ -123,13 +133,13 @@ fn fold(s: &[u8], at: usize, deep: usize, left: usize) -> Outcome
             if children == 0 {
                 return Outcome::Part(next, left - 1, at_nil());
             }
-            match fold(s, next, deep - 1, left - 1) {
+            match fold(s, next, deep - 1, left - 1, bodies, families) {
                 Outcome::Refused(c) => Outcome::Refused(c),
                 Outcome::Part(second, rest, below) => {
                     if children == 1 {
                         return Outcome::Part(second, rest, at_one(s, at, kind, below));
                     }
-                    match fold(s, second, deep - 1, rest) {
+                    match fold(s, second, deep - 1, rest, bodies, families) {
                         Outcome::Refused(c) => Outcome::Refused(c),
                         Outcome::Part(end, last, other) => {
                             Outcome::Part(end, last, at_two(kind == CHOICE, below, other))
@@ -145,7 +155,9 @@ fn fold(s: &[u8], at: usize, deep: usize, left: usize) -> Outcome
 pub fn fold_all(s: &[u8]) -> Whole
     ensures { λ r. ⌜ Looked (now (s .entry)) r ⌝ }
 {
-    match fold(s, 0, DEPTH, NODES) {
+    let bodies = reader::BODY;
+    let families = reader::CHILDREN;
+    match fold(s, 0, DEPTH, NODES, &bodies, &families) {
         Outcome::Refused(c) => Whole::Refused(c),
         Outcome::Part(next, _, marks) => {
             if next < s.len() {

@@ -90,7 +90,7 @@ pub fn child_count(kind: usize) -> usize
 }
 
 // The node at `at`, without its children. The caller has seen that a byte stands there, and lends the tables, so that a walk lays them out once.
-pub fn node_by(s: &[u8], at: usize, bodies: &[usize; KINDS], families: &[usize; KINDS]) -> Head
+pub fn node_at(s: &[u8], at: usize, bodies: &[usize; KINDS], families: &[usize; KINDS]) -> Head
     requires { ⌜ (at < length (now s)) × Tables (now bodies) (now families) ⌝ }
     ensures { λ r. ⌜ Headed (now (s .entry)) at r ⌝ }
 {
@@ -123,16 +123,6 @@ pub fn node_by(s: &[u8], at: usize, bodies: &[usize; KINDS], families: &[usize; 
     }
 }
 
-// The node at `at`, without its children. The caller has seen that a byte stands there.
-pub fn node_at(s: &[u8], at: usize) -> Head
-    requires { ⌜ at < length (now s) ⌝ }
-    ensures { λ r. ⌜ Headed (now (s .entry)) at r ⌝ }
-{
-    let bodies = BODY;
-    let families = CHILDREN;
-    node_by(s, at, &bodies, &families)
-}
-
 // The number of nodes of the record that the bytes are, or the refusal. `due` is a stack: how many levels each of the `many` terms
 // that are due may have, the next term's last. A node's children take its place there, with a level less.
 pub fn read(bytes: &[u8]) -> Count
@@ -156,7 +146,7 @@ pub fn read(bytes: &[u8]) -> Count
         if left == 0 {
             return Count::Refused(OVER_LIMIT);
         }
-        match node_by(bytes, at, &bodies, &families) {
+        match node_at(bytes, at, &bodies, &families) {
             Head::Bad => {
                 return Count::Refused(NO_RECORD);
             }

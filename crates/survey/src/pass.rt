@@ -7,6 +7,7 @@ use crate::seen::Ask;
 use crate::seen::Seen;
 use reader::DEPTH;
 use reader::Head;
+use reader::KINDS;
 use reader::NO_RECORD;
 use reader::NODES;
 use reader::OVER_LIMIT;
@@ -20,6 +21,7 @@ ghost use mathlib.Core.Path.{_≡_};
 ghost use Prim.Native.Nat.{_+_, _*_, _≤_, _<_};
 ghost use lib.ListN.{length};
 ghost use Rattle.format.specs.Limits.{node-limit};
+ghost use Rattle.reader.specs.Head.{Tables};
 ghost use Rattle.survey.specs.Over.{OverOne};
 ghost use Rattle.survey.specs.Survey.{Surveyed, Looked};
 
@@ -48,8 +50,16 @@ fn at_one(s: &[u8], at: usize, kind: usize, n: usize, ask: Ask, below: Seen) -> 
 }
 
 // What a pass over the term at `at` comes to: at most `deep` levels and `left` nodes may come, so its root is node NODES - left.
-fn survey(s: &[u8], at: usize, deep: usize, left: usize, ask: Ask) -> Outcome
-    requires { ⌜ (left ≤ node-limit) × (at + 4 * left ≤ 4 * node-limit) ⌝ }
+fn survey(
+    s: &[u8],
+    at: usize,
+    deep: usize,
+    left: usize,
+    ask: Ask,
+    bodies: &[usize; KINDS],
+    families: &[usize; KINDS],
+) -> Outcome
+    requires { ⌜ (left ≤ node-limit) × (at + 4 * left ≤ 4 * node-limit) × Tables (now bodies) (now families) ⌝ }
     ensures { λ r. ⌜ Surveyed (now (s .entry)) at deep left ask r ⌝ }
 {
     if s.len() <= at {
@@ -61,7 +71,7 @@ fn survey(s: &[u8], at: usize, deep: usize, left: usize, ask: Ask) -> Outcome
     if left == 0 {
         return Outcome::Refused(OVER_LIMIT);
     }
-    match node_at(s, at) {
+    match node_at(s, at, bodies, families) {
         Head::Bad => Outcome::Refused(NO_RECORD),
         Head::Node {
             kind,
@@ -71,14 +81,14 @@ fn survey(s: &[u8], at: usize, deep: usize, left: usize, ask: Ask) -> Outcome
             if children == 0 {
                 return Outcome::Part(narrow(next), narrow(left - 1), at_nil());
             }
-            match survey(s, next, deep - 1, left - 1, ask) {
+            match survey(s, next, deep - 1, left - 1, ask, bodies, families) {
                 Outcome::Refused(c) => Outcome::Refused(c),
                 Outcome::Part(second, rest, below) => {
                     if children == 1 {
                         let found = at_one(s, at, kind, NODES - left, ask, below);
                         return Outcome::Part(second, rest, found);
                     }
-                    match survey(s, wide(second), deep - 1, wide(rest), ask) {
+                    match survey(s, wide(second), deep - 1, wide(rest), ask, bodies, families) {
                         Outcome::Refused(c) => Outcome::Refused(c),
                         Outcome::Part(end, last, other) => {
                             Outcome::Part(end, last, at_two(kind == PARALLEL, below, other))
@@ -94,7 +104,9 @@ fn survey(s: &[u8], at: usize, deep: usize, left: usize, ask: Ask) -> Outcome
 pub fn survey_all(s: &[u8], ask: Ask) -> Whole
     ensures { λ r. ⌜ Looked (now (s .entry)) ask r ⌝ }
 {
-    match survey(s, 0, DEPTH, NODES, ask) {
+    let bodies = reader::BODY;
+    let families = reader::CHILDREN;
+    match survey(s, 0, DEPTH, NODES, ask, &bodies, &families) {
         Outcome::Refused(c) => Whole::Refused(c),
         Outcome::Part(next, _, seen) => {
             if wide(next) < s.len() {

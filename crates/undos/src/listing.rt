@@ -118,6 +118,8 @@ pub fn undo_listing(bytes: &[u8], row: &mut [u16]) -> Rows
     let mut action = [0u8; NODES];
     let mut scope = [0u16; NODES];
     let mut scopes = [0u16; NAMES];
+    let bodies = reader::BODY;
+    let families = reader::CHILDREN;
     match gather(
         bytes,
         0,
@@ -130,6 +132,8 @@ pub fn undo_listing(bytes: &[u8], row: &mut [u16]) -> Rows
         &mut action,
         &mut scope,
         &mut scopes,
+        &bodies,
+        &families,
     ) {
         Outcome::Refused(c) => Rows::Refused(c),
         Outcome::Part(next, _, keys, lasts) => {

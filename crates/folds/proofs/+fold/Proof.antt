@@ -16,14 +16,14 @@ use Rattle.reader.proofs.node_at.Reads as node-at-reads
 use Rattle.folds.proofs.+fold.{statement}
 use Rattle.folds.proofs.+fold.Tie.{close}
 
-abbrev μ-fold : Measures 1 fold-kinds.ps ℕ
+abbrev μ-fold : Measures 3 fold-kinds.ps ℕ
 μ-fold κs a = a .1 .1 .0
 
-abbrev fold-at : ℕ → In 1 fold-kinds.ps
-fold-at t = and 1 fold-kinds.ps (is 1 fold-kinds.ps μ-fold t) fold.Pre
+abbrev fold-at : ℕ → In 3 fold-kinds.ps
+fold-at t = and 3 fold-kinds.ps (is 3 fold-kinds.ps μ-fold t) fold.Pre
 
-abbrev fold-below : ℕ → In 1 fold-kinds.ps
-fold-below t = and 1 fold-kinds.ps (falls 1 fold-kinds.ps _<_ μ-fold t) fold.Pre
+abbrev fold-below : ℕ → In 3 fold-kinds.ps
+fold-below t = and 3 fold-kinds.ps (falls 3 fold-kinds.ps _<_ μ-fold t) fold.Pre
 
 fold-returns : (t : ℕ) → fold-lts.Need-returns (node-at-reads.Asked, node-at-reads.Learnt, at-nil-reads.Asked, at-nil-reads.Learnt, fold-below t, fold.Post, at-one-reads.Asked, at-one-reads.Learnt, at-two-reads.Asked, at-two-reads.Learnt) (fold-at t) fold.Post
 fold-returns t c = stops-end (c .before .before .args .s .now) (c .before .before .args .at) (c .before .before .args .deep) (c .before .before .args .left) (c .if1 .taken)
@@ -43,8 +43,8 @@ fold-enum-told t c = search needs
 fold-enum-known-kind : (t : ℕ) → fold-lts.Need-enum-known-kind (node-at-reads.Asked, node-at-reads.Learnt, at-nil-reads.Asked, at-nil-reads.Learnt, fold-below t, fold.Post, at-one-reads.Asked, at-one-reads.Learnt, at-two-reads.Asked, at-two-reads.Learnt) (fold-at t) fold.Post
 fold-enum-known-kind t c = search needs
 
-fold-sub-t21 : (t : ℕ) → fold-lts.Need-sub-t21 (node-at-reads.Asked, node-at-reads.Learnt, at-nil-reads.Asked, at-nil-reads.Learnt, fold-below t, fold.Post, at-one-reads.Asked, at-one-reads.Learnt, at-two-reads.Asked, at-two-reads.Learnt) (fold-at t) fold.Post
-fold-sub-t21 t c = search needs
+fold-sub-t23 : (t : ℕ) → fold-lts.Need-sub-t23 (node-at-reads.Asked, node-at-reads.Learnt, at-nil-reads.Asked, at-nil-reads.Learnt, fold-below t, fold.Post, at-one-reads.Asked, at-one-reads.Learnt, at-two-reads.Asked, at-two-reads.Learnt) (fold-at t) fold.Post
+fold-sub-t23 t c = search needs
 
 fold-at-nil-requires : (t : ℕ) → fold-lts.Need-at-nil-requires (node-at-reads.Asked, node-at-reads.Learnt, at-nil-reads.Asked, at-nil-reads.Learnt, fold-below t, fold.Post, at-one-reads.Asked, at-one-reads.Learnt, at-two-reads.Asked, at-two-reads.Learnt) (fold-at t) fold.Post
 fold-at-nil-requires t c κs = search needs
@@ -110,7 +110,7 @@ pub +fold-spec : {M : Type 1} → statement M
     (fold-node-at-requires t)
     (fold-enum-told t)
     (fold-enum-known-kind t)
-    (fold-sub-t21 t)
+    (fold-sub-t23 t)
     (fold-at-nil-requires t)
     (fold-returns-4 t)
     (fold-sub-fold t)

@@ -18,14 +18,14 @@ use Rattle.shared.proofs.wide.Reads as wide-reads
 use Rattle.survey.proofs.pass.+survey.{statement}
 use Rattle.survey.proofs.pass.+survey.Tie.{close}
 
-abbrev μ-survey : Measures 1 survey-kinds.ps ℕ
+abbrev μ-survey : Measures 3 survey-kinds.ps ℕ
 μ-survey κs a = a .1 .1 .0
 
-abbrev survey-at : ℕ → In 1 survey-kinds.ps
-survey-at t = and 1 survey-kinds.ps (is 1 survey-kinds.ps μ-survey t) survey.Pre
+abbrev survey-at : ℕ → In 3 survey-kinds.ps
+survey-at t = and 3 survey-kinds.ps (is 3 survey-kinds.ps μ-survey t) survey.Pre
 
-abbrev survey-below : ℕ → In 1 survey-kinds.ps
-survey-below t = and 1 survey-kinds.ps (falls 1 survey-kinds.ps _<_ μ-survey t) survey.Pre
+abbrev survey-below : ℕ → In 3 survey-kinds.ps
+survey-below t = and 3 survey-kinds.ps (falls 3 survey-kinds.ps _<_ μ-survey t) survey.Pre
 
 survey-returns : (t : ℕ) → survey-lts.Need-returns (node-at-reads.Asked, node-at-reads.Learnt, narrow-reads.Asked, narrow-reads.Learnt, at-nil-reads.Asked, at-nil-reads.Learnt, survey-below t, survey.Post, at-one-reads.Asked, at-one-reads.Learnt, wide-reads.Asked, wide-reads.Learnt, at-two-reads.Asked, at-two-reads.Learnt) (survey-at t) survey.Post
 survey-returns t c = stops-end (c .before .before .args .s .now) (c .before .before .args .at) (c .before .before .args .deep) (c .before .before .args .left) (c .if1 .taken)
@@ -67,7 +67,7 @@ survey-sub-survey-2 : (t : ℕ) → survey-lts.Need-sub-survey-2 (node-at-reads.
 survey-sub-survey-2 t c = search needs
 
 survey-survey-requires : (t : ℕ) → survey-lts.Need-survey-requires (node-at-reads.Asked, node-at-reads.Learnt, narrow-reads.Asked, narrow-reads.Learnt, at-nil-reads.Asked, at-nil-reads.Learnt, survey-below t, survey.Post, at-one-reads.Asked, at-one-reads.Learnt, wide-reads.Asked, wide-reads.Learnt, at-two-reads.Asked, at-two-reads.Learnt) (survey-at t) survey.Post
-survey-survey-requires t c κs = (omega arith, (omega (arith, c .before .before .before .before .before .before .before .before .before .pre .1 .0), omega (arith, c .before .before .before .before .before .before .before .before .before .pre .1 .1, c .before .before .before .before .before .if3 .left, next-near (c .before .before .before .before .before .before .before .before .before .args .s .now) (c .before .before .before .before .before .before .before .before .before .args .at) (c .before .before .before .before .before .before .before .before .before .args .deep) (c .before .before .before .before .before .before .before .before .before .args .left) (c .before .before .before .before .before .before .before .if1 .left) (c .before .before .before .before .before .before .if2 .left) (c .before .before .before .before .before .if3 .left) _ _ _ (node-known _ _ _ (c .before .before .before .before .node-at .ensures) _ _ _ (c .before .before .kind .given .1)) (c .before .before .before .before .before .before .before .before .before .args .ask) (c .before .before .before .before .before .before .before .before .before .pre .1 .0))))
+survey-survey-requires t c κs = (omega arith, (omega (arith, c .before .before .before .before .before .before .before .before .before .pre .1 .0), omega (arith, c .before .before .before .before .before .before .before .before .before .pre .1 .1, c .before .before .before .before .before .if3 .left, next-near (c .before .before .before .before .before .before .before .before .before .args .s .now) (c .before .before .before .before .before .before .before .before .before .args .at) (c .before .before .before .before .before .before .before .before .before .args .deep) (c .before .before .before .before .before .before .before .before .before .args .left) (c .before .before .before .before .before .before .before .if1 .left) (c .before .before .before .before .before .before .if2 .left) (c .before .before .before .before .before .if3 .left) _ _ _ (node-known _ _ _ (c .before .before .before .before .node-at .ensures) _ _ _ (c .before .before .kind .given .1)) (c .before .before .before .before .before .before .before .before .before .args .ask) (c .before .before .before .before .before .before .before .before .before .pre .1 .0)), c .before .before .before .before .before .before .before .before .before .pre .1 .2))
 
 survey-enum-known-c : (t : ℕ) → survey-lts.Need-enum-known-c (node-at-reads.Asked, node-at-reads.Learnt, narrow-reads.Asked, narrow-reads.Learnt, at-nil-reads.Asked, at-nil-reads.Learnt, survey-below t, survey.Post, at-one-reads.Asked, at-one-reads.Learnt, wide-reads.Asked, wide-reads.Learnt, at-two-reads.Asked, at-two-reads.Learnt) (survey-at t) survey.Post
 survey-enum-known-c t c = search needs
@@ -94,7 +94,7 @@ survey-wide-requires-2 : (t : ℕ) → survey-lts.Need-wide-requires-2 (node-at-
 survey-wide-requires-2 t c κs = search needs
 
 survey-survey-requires-2 : (t : ℕ) → survey-lts.Need-survey-requires-2 (node-at-reads.Asked, node-at-reads.Learnt, narrow-reads.Asked, narrow-reads.Learnt, at-nil-reads.Asked, at-nil-reads.Learnt, survey-below t, survey.Post, at-one-reads.Asked, at-one-reads.Learnt, wide-reads.Asked, wide-reads.Learnt, at-two-reads.Asked, at-two-reads.Learnt) (survey-at t) survey.Post
-survey-survey-requires-2 t c κs = (omega arith, (rw (c .wide2 .ensures) (few-left (c .before .before .before .before .before .before .before .before .before .before .before .before .before .before .before .before .args .s .now) _ _ _ (c .before .before .before .before .before .before .before .before .before .before .before .before .before .before .before .before .args .ask) (c .before .before .before .before .before .before .survey .result) (c .before .before .before .before .before .before .survey .ensures) _ _ _ (c .before .before .before .before .second .given .1) (omega (arith, c .before .before .before .before .before .before .before .before .before .before .before .before .before .before .before .before .pre .1 .0))), rw (c .before .wide .ensures, c .wide2 .ensures) (near (c .before .before .before .before .before .before .before .before .before .before .before .before .before .before .before .before .args .s .now) _ _ _ (c .before .before .before .before .before .before .before .before .before .before .before .before .before .before .before .before .args .ask) (c .before .before .before .before .before .before .survey .result) (c .before .before .before .before .before .before .survey .ensures) _ _ _ (c .before .before .before .before .second .given .1) (omega (arith, c .before .before .before .before .before .before .before .before .before .before .before .before .before .before .before .before .pre .1 .1, next-near (c .before .before .before .before .before .before .before .before .before .before .before .before .before .before .before .before .args .s .now) (c .before .before .before .before .before .before .before .before .before .before .before .before .before .before .before .before .args .at) (c .before .before .before .before .before .before .before .before .before .before .before .before .before .before .before .before .args .deep) (c .before .before .before .before .before .before .before .before .before .before .before .before .before .before .before .before .args .left) (c .before .before .before .before .before .before .before .before .before .before .before .before .before .before .if1 .left) (c .before .before .before .before .before .before .before .before .before .before .before .before .before .if2 .left) (c .before .before .before .before .before .before .before .before .before .before .before .before .if3 .left) _ _ _ (node-known _ _ _ (c .before .before .before .before .before .before .before .before .before .before .before .node-at .ensures) _ _ _ (c .before .before .before .before .before .before .before .before .before .kind .given .1)) (c .before .before .before .before .before .before .before .before .before .before .before .before .before .before .before .before .args .ask) (c .before .before .before .before .before .before .before .before .before .before .before .before .before .before .before .before .pre .1 .0))))))
+survey-survey-requires-2 t c κs = (omega arith, (rw (c .wide2 .ensures) (few-left (c .before .before .before .before .before .before .before .before .before .before .before .before .before .before .before .before .args .s .now) _ _ _ (c .before .before .before .before .before .before .before .before .before .before .before .before .before .before .before .before .args .ask) (c .before .before .before .before .before .before .survey .result) (c .before .before .before .before .before .before .survey .ensures) _ _ _ (c .before .before .before .before .second .given .1) (omega (arith, c .before .before .before .before .before .before .before .before .before .before .before .before .before .before .before .before .pre .1 .0))), rw (c .before .wide .ensures, c .wide2 .ensures) (near (c .before .before .before .before .before .before .before .before .before .before .before .before .before .before .before .before .args .s .now) _ _ _ (c .before .before .before .before .before .before .before .before .before .before .before .before .before .before .before .before .args .ask) (c .before .before .before .before .before .before .survey .result) (c .before .before .before .before .before .before .survey .ensures) _ _ _ (c .before .before .before .before .second .given .1) (omega (arith, c .before .before .before .before .before .before .before .before .before .before .before .before .before .before .before .before .pre .1 .1, next-near (c .before .before .before .before .before .before .before .before .before .before .before .before .before .before .before .before .args .s .now) (c .before .before .before .before .before .before .before .before .before .before .before .before .before .before .before .before .args .at) (c .before .before .before .before .before .before .before .before .before .before .before .before .before .before .before .before .args .deep) (c .before .before .before .before .before .before .before .before .before .before .before .before .before .before .before .before .args .left) (c .before .before .before .before .before .before .before .before .before .before .before .before .before .before .if1 .left) (c .before .before .before .before .before .before .before .before .before .before .before .before .before .if2 .left) (c .before .before .before .before .before .before .before .before .before .before .before .before .if3 .left) _ _ _ (node-known _ _ _ (c .before .before .before .before .before .before .before .before .before .before .before .node-at .ensures) _ _ _ (c .before .before .before .before .before .before .before .before .before .kind .given .1)) (c .before .before .before .before .before .before .before .before .before .before .before .before .before .before .before .before .args .ask) (c .before .before .before .before .before .before .before .before .before .before .before .before .before .before .before .before .pre .1 .0)))), c .before .before .before .before .before .before .before .before .before .before .before .before .before .before .before .before .pre .1 .2))
 
 survey-enum-known-c-2 : (t : ℕ) → survey-lts.Need-enum-known-c-2 (node-at-reads.Asked, node-at-reads.Learnt, narrow-reads.Asked, narrow-reads.Learnt, at-nil-reads.Asked, at-nil-reads.Learnt, survey-below t, survey.Post, at-one-reads.Asked, at-one-reads.Learnt, wide-reads.Asked, wide-reads.Learnt, at-two-reads.Asked, at-two-reads.Learnt) (survey-at t) survey.Post
 survey-enum-known-c-2 t c = search needs

@@ -23,14 +23,14 @@ use Rattle.undos.proofs.gather.over_two.Reads as over-two-reads
 use Rattle.undos.proofs.gather.+gather.{statement}
 use Rattle.undos.proofs.gather.+gather.Tie.{close}
 
-abbrev μ-gather : Measures 6 gather-kinds.ps ℕ
+abbrev μ-gather : Measures 8 gather-kinds.ps ℕ
 μ-gather κs a = a .1 .1 .0
 
-abbrev gather-at : ℕ → In 6 gather-kinds.ps
-gather-at t = and 6 gather-kinds.ps (is 6 gather-kinds.ps μ-gather t) gather.Pre
+abbrev gather-at : ℕ → In 8 gather-kinds.ps
+gather-at t = and 8 gather-kinds.ps (is 8 gather-kinds.ps μ-gather t) gather.Pre
 
-abbrev gather-below : ℕ → In 6 gather-kinds.ps
-gather-below t = and 6 gather-kinds.ps (falls 6 gather-kinds.ps _<_ μ-gather t) gather.Pre
+abbrev gather-below : ℕ → In 8 gather-kinds.ps
+gather-below t = and 8 gather-kinds.ps (falls 8 gather-kinds.ps _<_ μ-gather t) gather.Pre
 
 gather-returns : (t : ℕ) → gather-lts.Need-returns (node-at-reads.Asked, node-at-reads.Learnt, enter-reads.Asked, enter-reads.Learnt, gather-below t, gather.Post, over-prefix-reads.Asked, over-prefix-reads.Learnt, close-reads.Asked, close-reads.Learnt, over-two-reads.Asked, over-two-reads.Learnt) (gather-at t) gather.Post
 gather-returns t c = stops-end (c .before .before .args .s .now) (c .before .before .args .at) (c .before .before .args .deep) (c .before .before .args .left) (c .if1 .taken)
@@ -50,8 +50,8 @@ gather-enum-told t c = search needs
 gather-enum-known-kind : (t : ℕ) → gather-lts.Need-enum-known-kind (node-at-reads.Asked, node-at-reads.Learnt, enter-reads.Asked, enter-reads.Learnt, gather-below t, gather.Post, over-prefix-reads.Asked, over-prefix-reads.Learnt, close-reads.Asked, close-reads.Learnt, over-two-reads.Asked, over-two-reads.Learnt) (gather-at t) gather.Post
 gather-enum-known-kind t c = search needs
 
-gather-sub-t33 : (t : ℕ) → gather-lts.Need-sub-t33 (node-at-reads.Asked, node-at-reads.Learnt, enter-reads.Asked, enter-reads.Learnt, gather-below t, gather.Post, over-prefix-reads.Asked, over-prefix-reads.Learnt, close-reads.Asked, close-reads.Learnt, over-two-reads.Asked, over-two-reads.Learnt) (gather-at t) gather.Post
-gather-sub-t33 t c = search needs
+gather-sub-t35 : (t : ℕ) → gather-lts.Need-sub-t35 (node-at-reads.Asked, node-at-reads.Learnt, enter-reads.Asked, enter-reads.Learnt, gather-below t, gather.Post, over-prefix-reads.Asked, over-prefix-reads.Learnt, close-reads.Asked, close-reads.Learnt, over-two-reads.Asked, over-two-reads.Learnt) (gather-at t) gather.Post
+gather-sub-t35 t c = search needs
 
 gather-returns-4 : (t : ℕ) → gather-lts.Need-returns-4 (node-at-reads.Asked, node-at-reads.Learnt, enter-reads.Asked, enter-reads.Learnt, gather-below t, gather.Post, over-prefix-reads.Asked, over-prefix-reads.Learnt, close-reads.Asked, close-reads.Learnt, over-two-reads.Asked, over-two-reads.Learnt) (gather-at t) gather.Post
 gather-returns-4 t c = let H = headed _ _ _ (c .before .before .before .before .node-at .ensures) _ _ _ (c .before .before .kind .given .1) in gathers-nil (c .before .before .before .before .before .before .before .before .before .args .s .now) (c .before .before .before .before .before .before .before .before .before .args .at) (c .before .before .before .before .before .before .before .before .before .args .deep) (c .before .before .before .before .before .before .before .before .before .args .left) (c .before .before .before .before .before .before .before .if1 .left) (c .before .before .before .before .before .before .if2 .left) (c .before .before .before .before .before .if3 .left) _ _ _ H (c .before .before .before .before .before .before .before .before .before .args .keys) (c .before .before .before .before .before .before .before .before .before .args .lasts) (c .before .before .before .before .before .before .before .before .before .pre .1 .0 .0) _ _ (c .before .before .before .before .before .before .before .before .before .pre .1 .1) (c .if4 .taken)
@@ -69,7 +69,7 @@ gather-sub-gather-2 : (t : ℕ) → gather-lts.Need-sub-gather-2 (node-at-reads.
 gather-sub-gather-2 t c = search needs
 
 gather-gather-requires : (t : ℕ) → gather-lts.Need-gather-requires (node-at-reads.Asked, node-at-reads.Learnt, enter-reads.Asked, enter-reads.Learnt, gather-below t, gather.Post, over-prefix-reads.Asked, over-prefix-reads.Learnt, close-reads.Asked, close-reads.Learnt, over-two-reads.Asked, over-two-reads.Learnt) (gather-at t) gather.Post
-gather-gather-requires t c κs = let H = headed _ _ _ (c .before .before .before .before .before .before .before .before .before .before .before .before .node-at .ensures) _ _ _ (c .before .before .before .before .before .before .before .before .before .before .kind .given .1) in let z = entered (c .before .before .before .before .before .before .before .before .before .before .before .before .before .before .before .before .before .args .s .now) (c .before .before .before .before .before .before .before .before .before .before .before .before .before .before .before .before .before .args .at) (c .before .before .before .before .before .before .before .before .before .before .before .before .before .before .before .before .before .args .deep) (c .before .before .before .before .before .before .before .before .before .before .before .before .before .before .before .before .before .args .left) (c .before .before .before .before .before .before .before .before .before .before .before .before .before .before .before .if1 .left) (c .before .before .before .before .before .before .before .before .before .before .before .before .before .before .if2 .left) (c .before .before .before .before .before .before .before .before .before .before .before .before .before .if3 .left) _ _ _ H (c .before .before .before .before .before .before .before .before .before .before .before .before .before .before .before .before .before .args .keys) (c .before .before .before .before .before .before .before .before .before .before .before .before .before .before .before .before .before .args .lasts) (c .before .before .before .before .before .before .before .before .before .before .before .before .before .before .before .before .before .pre .1 .0 .0) _ _ _ _ _ (c .before .before .before .before .before .enter .result) (c .before .before .before .before .before .enter .ensures) in (omega arith, ((z .1, omega (arith, z, c .before .before .before .before .before .before .before .before .before .before .before .before .before .before .before .before .before .pre .1 .0)), (c .before .before .before .before .before .enter .ensures .sizes .1 ∙ c .before .before .before .before .before .before .before .before .before .before .before .before .before .before .before .before .before .pre .1 .1 .0, c .before .before .before .before .before .enter .ensures .sizes .0 ∙ c .before .before .before .before .before .before .before .before .before .before .before .before .before .before .before .before .before .pre .1 .1 .1, c .before .before .before .before .before .before .before .before .before .before .before .before .before .before .before .before .before .pre .1 .1 .2, c .before .before .before .before .before .before .before .before .before .before .before .before .before .before .before .before .before .pre .1 .1 .3, c .before .before .before .before .before .before .before .before .before .before .before .before .before .before .before .before .before .pre .1 .1 .4)))
+gather-gather-requires t c κs = let H = headed _ _ _ (c .before .before .before .before .before .before .before .before .before .before .before .before .node-at .ensures) _ _ _ (c .before .before .before .before .before .before .before .before .before .before .kind .given .1) in let z = entered (c .before .before .before .before .before .before .before .before .before .before .before .before .before .before .before .before .before .args .s .now) (c .before .before .before .before .before .before .before .before .before .before .before .before .before .before .before .before .before .args .at) (c .before .before .before .before .before .before .before .before .before .before .before .before .before .before .before .before .before .args .deep) (c .before .before .before .before .before .before .before .before .before .before .before .before .before .before .before .before .before .args .left) (c .before .before .before .before .before .before .before .before .before .before .before .before .before .before .before .if1 .left) (c .before .before .before .before .before .before .before .before .before .before .before .before .before .before .if2 .left) (c .before .before .before .before .before .before .before .before .before .before .before .before .before .if3 .left) _ _ _ H (c .before .before .before .before .before .before .before .before .before .before .before .before .before .before .before .before .before .args .keys) (c .before .before .before .before .before .before .before .before .before .before .before .before .before .before .before .before .before .args .lasts) (c .before .before .before .before .before .before .before .before .before .before .before .before .before .before .before .before .before .pre .1 .0 .0) _ _ _ _ _ (c .before .before .before .before .before .enter .result) (c .before .before .before .before .before .enter .ensures) in (omega arith, ((z .1, omega (arith, z, c .before .before .before .before .before .before .before .before .before .before .before .before .before .before .before .before .before .pre .1 .0 .0, c .before .before .before .before .before .before .before .before .before .before .before .before .before .before .before .before .before .pre .1 .0 .1), c .before .before .before .before .before .before .before .before .before .before .before .before .before .before .before .before .before .pre .1 .0 .2), (c .before .before .before .before .before .enter .ensures .sizes .1 ∙ c .before .before .before .before .before .before .before .before .before .before .before .before .before .before .before .before .before .pre .1 .1 .0, c .before .before .before .before .before .enter .ensures .sizes .0 ∙ c .before .before .before .before .before .before .before .before .before .before .before .before .before .before .before .before .before .pre .1 .1 .1, c .before .before .before .before .before .before .before .before .before .before .before .before .before .before .before .before .before .pre .1 .1 .2, c .before .before .before .before .before .before .before .before .before .before .before .before .before .before .before .before .before .pre .1 .1 .3, c .before .before .before .before .before .before .before .before .before .before .before .before .before .before .before .before .before .pre .1 .1 .4)))
 
 gather-enum-known-c : (t : ℕ) → gather-lts.Need-enum-known-c (node-at-reads.Asked, node-at-reads.Learnt, enter-reads.Asked, enter-reads.Learnt, gather-below t, gather.Post, over-prefix-reads.Asked, over-prefix-reads.Learnt, close-reads.Asked, close-reads.Learnt, over-two-reads.Asked, over-two-reads.Learnt) (gather-at t) gather.Post
 gather-enum-known-c t c = search needs
@@ -90,10 +90,10 @@ gather-returns-6 : (t : ℕ) → gather-lts.Need-returns-6 (node-at-reads.Asked,
 gather-returns-6 t c = let H = headed _ _ _ (c .before .before .before .before .before .before .before .before .before .before .before .before .before .before .before .before .before .before .before .before .node-at .ensures) _ _ _ (c .before .before .before .before .before .before .before .before .before .before .before .before .before .before .before .before .before .before .kind .given .1) in gathers-restriction (c .before .before .before .before .before .before .before .before .before .before .before .before .before .before .before .before .before .before .before .before .before .before .before .before .before .args .s .now) (c .before .before .before .before .before .before .before .before .before .before .before .before .before .before .before .before .before .before .before .before .before .before .before .before .before .args .at) (c .before .before .before .before .before .before .before .before .before .before .before .before .before .before .before .before .before .before .before .before .before .before .before .before .before .args .deep) (c .before .before .before .before .before .before .before .before .before .before .before .before .before .before .before .before .before .before .before .before .before .before .before .before .before .args .left) (c .before .before .before .before .before .before .before .before .before .before .before .before .before .before .before .before .before .before .before .before .before .before .before .if1 .left) (c .before .before .before .before .before .before .before .before .before .before .before .before .before .before .before .before .before .before .before .before .before .before .if2 .left) (c .before .before .before .before .before .before .before .before .before .before .before .before .before .before .before .before .before .before .before .before .before .if3 .left) _ _ _ H (c .before .before .before .before .before .before .before .before .before .before .before .before .before .before .before .before .before .before .before .before .before .before .before .before .before .args .keys) (c .before .before .before .before .before .before .before .before .before .before .before .before .before .before .before .before .before .before .before .before .before .before .before .before .before .args .lasts) (c .before .before .before .before .before .before .before .before .before .before .before .before .before .before .before .before .before .before .before .before .before .before .before .before .before .pre .1 .0 .0) (c .before .before .before .before .before .before .before .before .before .before .before .before .before .before .before .before .before .before .before .before .before .before .before .before .before .args .scopes .now) (c .before .before .before .before .before .before .before .before .before .before .before .before .before .enter .last .1 .1 .1 .1 .1 .1 .0) (c .before .before .before .before .before .before .before .before .before .before .before .before .before .before .before .before .before .before .before .before .before .before .before .before .before .args .all .now) (c .before .before .before .before .before .before .before .before .before .before .before .before .before .enter .last .1 .1 .1 .1 .1 .0) (rows (c .before .before .before .before .before .before .before .before .before .before .before .before .before .before .before .before .before .before .before .before .before .before .before .before .before .args .key .now) (c .before .before .before .before .before .before .before .before .before .before .before .before .before .before .before .before .before .before .before .before .before .before .before .before .before .args .action .now) (c .before .before .before .before .before .before .before .before .before .before .before .before .before .before .before .before .before .before .before .before .before .before .before .before .before .args .scope .now)) (c .before .before .before .before .before .before .before .before .before .before .before .before .before .enter .result) (c .before .before .before .before .before .before .before .before .before .before .before .before .before .enter .ensures) (arrays (c .before .before .before .before .before .before .before .gather .last .1 .1 .1 .1 .1 .1 .1 .1 .1 .1 .0) (c .before .before .before .before .before .before .before .gather .last .1 .1 .1 .1 .1 .1 .0) (rows (c .before .before .before .before .before .before .before .gather .last .1 .1 .1 .1 .1 .1 .1 .0) (c .before .before .before .before .before .before .before .gather .last .1 .1 .1 .1 .1 .1 .1 .1 .0) (c .before .before .before .before .before .before .before .gather .last .1 .1 .1 .1 .1 .1 .1 .1 .1 .0))) (Sized (c .before .before .before .before .before .before .before .gather .last .1 .1 .1 .1 .1 .1 .1 .1 .1 .1 .0) (c .before .before .before .before .before .before .before .gather .last .1 .1 .1 .1 .1 .1 .0) (c .before .before .before .before .before .before .before .gather .last .1 .1 .1 .1 .1 .1 .1 .0) (c .before .before .before .before .before .before .before .gather .last .1 .1 .1 .1 .1 .1 .1 .1 .0) (c .before .before .before .before .before .before .before .gather .last .1 .1 .1 .1 .1 .1 .1 .1 .1 .0)) (c .before .before .before .before .before .before .before .gather .result) (c .before .before .before .before .before .before .before .gather .ensures) _ _ _ _ (c .before .before .before .before .before .second .given .1) (few-rows (c .before .before .before .before .before .before .before .before .before .before .before .before .before .before .before .before .before .before .before .before .before .before .before .before .before .args .lasts) _ _ _ (c .before .before .before .before .before .before .before .before .before .before .before .before .before .before .before .before .before .before .before .before .before .before .before .before .before .pre .1 .1 .2) (c .before .before .before .before .before .before .before .before .before .before .before .before .before .before .before .before .before .before .before .before .before .before .before .before .before .pre .1 .1 .3) (c .before .before .before .before .before .before .before .before .before .before .before .before .before .before .before .before .before .before .before .before .before .before .before .before .before .pre .1 .1 .4) (omega (arith, c .before .before .before .before .before .before .before .before .before .before .before .before .before .before .before .before .before .before .before .before .before .before .before .before .before .pre .1 .0))) (restriction (c .before .before .before .before .before .before .before .before .before .before .before .before .before .before .before .before .before .before .before .before .before .before .before .before .before .args .s .now) (c .before .before .before .before .before .before .before .before .before .before .before .before .before .before .before .before .before .before .before .before .before .before .before .before .before .args .at) (c .before .before .before .before .before .before .before .before .before .before .before .before .before .before .before .before .before .before .before .before .before .before .before .before .before .args .deep) (c .before .before .before .before .before .before .before .before .before .before .before .before .before .before .before .before .before .before .before .before .before .before .before .before .before .args .left) (c .before .before .before .before .before .before .before .before .before .before .before .before .before .before .before .before .before .before .before .before .before .before .before .if1 .left) (c .before .before .before .before .before .before .before .before .before .before .before .before .before .before .before .before .before .before .before .before .before .before .if2 .left) (c .before .before .before .before .before .before .before .before .before .before .before .before .before .before .before .before .before .before .before .before .before .if3 .left) _ _ _ H (c .before .before .before .if5 .taken) (c .before .before .if6 .left)) (c .close .last .1 .1 .1 .0) (c .close .ensures) _ (let y = child-whole (c .before .before .before .before .before .before .before .before .before .before .before .before .before .before .before .before .before .before .before .before .before .before .before .before .before .args .s .now) (c .before .before .before .before .before .before .before .before .before .before .before .before .before .before .before .before .before .before .before .before .before .before .before .before .before .args .at) (c .before .before .before .before .before .before .before .before .before .before .before .before .before .before .before .before .before .before .before .before .before .before .before .before .before .args .deep) (c .before .before .before .before .before .before .before .before .before .before .before .before .before .before .before .before .before .before .before .before .before .before .before .before .before .args .left) (c .before .before .before .before .before .before .before .before .before .before .before .before .before .before .before .before .before .before .before .before .before .before .before .if1 .left) (c .before .before .before .before .before .before .before .before .before .before .before .before .before .before .before .before .before .before .before .before .before .before .if2 .left) (c .before .before .before .before .before .before .before .before .before .before .before .before .before .before .before .before .before .before .before .before .before .if3 .left) _ _ _ H (c .before .before .before .before .before .before .before .before .before .before .before .before .before .before .before .before .before .before .before .before .before .before .before .before .before .args .keys) (c .before .before .before .before .before .before .before .before .before .before .before .before .before .before .before .before .before .before .before .before .before .before .before .before .before .args .lasts) (c .before .before .before .before .before .before .before .before .before .before .before .before .before .before .before .before .before .before .before .before .before .before .before .before .before .pre .1 .0 .0) (c .before .before .before .before .before .before .before .before .before .before .before .before .before .before .before .before .before .before .before .before .before .before .before .before .before .args .scopes .now) (c .before .before .before .before .before .before .before .before .before .before .before .before .before .enter .last .1 .1 .1 .1 .1 .1 .0) (c .before .before .before .before .before .before .before .before .before .before .before .before .before .before .before .before .before .before .before .before .before .before .before .before .before .args .all .now) (c .before .before .before .before .before .before .before .before .before .before .before .before .before .enter .last .1 .1 .1 .1 .1 .0) (rows (c .before .before .before .before .before .before .before .before .before .before .before .before .before .before .before .before .before .before .before .before .before .before .before .before .before .args .key .now) (c .before .before .before .before .before .before .before .before .before .before .before .before .before .before .before .before .before .before .before .before .before .before .before .before .before .args .action .now) (c .before .before .before .before .before .before .before .before .before .before .before .before .before .before .before .before .before .before .before .before .before .before .before .before .before .args .scope .now)) (c .before .before .before .before .before .before .before .before .before .before .before .before .before .enter .result) (c .before .before .before .before .before .before .before .before .before .before .before .before .before .enter .ensures) (arrays (c .before .before .before .before .before .before .before .gather .last .1 .1 .1 .1 .1 .1 .1 .1 .1 .1 .0) (c .before .before .before .before .before .before .before .gather .last .1 .1 .1 .1 .1 .1 .0) (rows (c .before .before .before .before .before .before .before .gather .last .1 .1 .1 .1 .1 .1 .1 .0) (c .before .before .before .before .before .before .before .gather .last .1 .1 .1 .1 .1 .1 .1 .1 .0) (c .before .before .before .before .before .before .before .gather .last .1 .1 .1 .1 .1 .1 .1 .1 .1 .0))) (Sized (c .before .before .before .before .before .before .before .gather .last .1 .1 .1 .1 .1 .1 .1 .1 .1 .1 .0) (c .before .before .before .before .before .before .before .gather .last .1 .1 .1 .1 .1 .1 .0) (c .before .before .before .before .before .before .before .gather .last .1 .1 .1 .1 .1 .1 .1 .0) (c .before .before .before .before .before .before .before .gather .last .1 .1 .1 .1 .1 .1 .1 .1 .0) (c .before .before .before .before .before .before .before .gather .last .1 .1 .1 .1 .1 .1 .1 .1 .1 .0)) (c .before .before .before .before .before .before .before .gather .result) (c .before .before .before .before .before .before .before .gather .ensures) _ _ _ _ (c .before .before .before .before .before .second .given .1) (few-rows (c .before .before .before .before .before .before .before .before .before .before .before .before .before .before .before .before .before .before .before .before .before .before .before .before .before .args .lasts) _ _ _ (c .before .before .before .before .before .before .before .before .before .before .before .before .before .before .before .before .before .before .before .before .before .before .before .before .before .pre .1 .1 .2) (c .before .before .before .before .before .before .before .before .before .before .before .before .before .before .before .before .before .before .before .before .before .before .before .before .before .pre .1 .1 .3) (c .before .before .before .before .before .before .before .before .before .before .before .before .before .before .before .before .before .before .before .before .before .before .before .before .before .pre .1 .1 .4) (omega (arith, c .before .before .before .before .before .before .before .before .before .before .before .before .before .before .before .before .before .before .before .before .before .before .before .before .before .pre .1 .0))) in (ap length (c .close .ensures) ∙ simp length-set (y .0), y .1, y .2, y .3, y .4))
 
 gather-sub-gather-3 : (t : ℕ) → gather-lts.Need-sub-gather-3 (node-at-reads.Asked, node-at-reads.Learnt, enter-reads.Asked, enter-reads.Learnt, gather-below t, gather.Post, over-prefix-reads.Asked, over-prefix-reads.Learnt, close-reads.Asked, close-reads.Learnt, over-two-reads.Asked, over-two-reads.Learnt) (gather-at t) gather.Post
-gather-sub-gather-3 t c = search needs
+gather-sub-gather-3 t c = omega (arith, c .before .before .before .before .before .before .before .before .before .before .before .before .before .before .before .before .before .before .before .if2 .left)
 
 gather-gather-requires-2 : (t : ℕ) → gather-lts.Need-gather-requires-2 (node-at-reads.Asked, node-at-reads.Learnt, enter-reads.Asked, enter-reads.Learnt, gather-below t, gather.Post, over-prefix-reads.Asked, over-prefix-reads.Learnt, close-reads.Asked, close-reads.Learnt, over-two-reads.Asked, over-two-reads.Learnt) (gather-at t) gather.Post
-gather-gather-requires-2 t c κs = let H = headed _ _ _ (c .before .before .before .before .before .before .before .before .before .before .before .before .before .before .before .before .before .before .before .before .before .before .node-at .ensures) _ _ _ (c .before .before .before .before .before .before .before .before .before .before .before .before .before .before .before .before .before .before .before .before .kind .given .1) in let z = entered (c .before .before .before .before .before .before .before .before .before .before .before .before .before .before .before .before .before .before .before .before .before .before .before .before .before .before .before .args .s .now) (c .before .before .before .before .before .before .before .before .before .before .before .before .before .before .before .before .before .before .before .before .before .before .before .before .before .before .before .args .at) (c .before .before .before .before .before .before .before .before .before .before .before .before .before .before .before .before .before .before .before .before .before .before .before .before .before .before .before .args .deep) (c .before .before .before .before .before .before .before .before .before .before .before .before .before .before .before .before .before .before .before .before .before .before .before .before .before .before .before .args .left) (c .before .before .before .before .before .before .before .before .before .before .before .before .before .before .before .before .before .before .before .before .before .before .before .before .before .if1 .left) (c .before .before .before .before .before .before .before .before .before .before .before .before .before .before .before .before .before .before .before .before .before .before .before .before .if2 .left) (c .before .before .before .before .before .before .before .before .before .before .before .before .before .before .before .before .before .before .before .before .before .before .before .if3 .left) _ _ _ H (c .before .before .before .before .before .before .before .before .before .before .before .before .before .before .before .before .before .before .before .before .before .before .before .before .before .before .before .args .keys) (c .before .before .before .before .before .before .before .before .before .before .before .before .before .before .before .before .before .before .before .before .before .before .before .before .before .before .before .args .lasts) (c .before .before .before .before .before .before .before .before .before .before .before .before .before .before .before .before .before .before .before .before .before .before .before .before .before .before .before .pre .1 .0 .0) _ _ _ _ _ (c .before .before .before .before .before .before .before .before .before .before .before .before .before .before .before .enter .result) (c .before .before .before .before .before .before .before .before .before .before .before .before .before .before .before .enter .ensures) in let y = room-left (c .before .before .before .before .before .before .before .before .before .before .before .before .before .before .before .before .before .before .before .before .before .before .before .before .before .before .before .args .s .now) _ _ _ _ _ _ (arrays (c .before .before .before .before .before .before .before .before .before .gather .last .1 .1 .1 .1 .1 .1 .1 .1 .1 .1 .0) (c .before .before .before .before .before .before .before .before .before .gather .last .1 .1 .1 .1 .1 .1 .0) (rows (c .before .before .before .before .before .before .before .before .before .gather .last .1 .1 .1 .1 .1 .1 .1 .0) (c .before .before .before .before .before .before .before .before .before .gather .last .1 .1 .1 .1 .1 .1 .1 .1 .0) (c .before .before .before .before .before .before .before .before .before .gather .last .1 .1 .1 .1 .1 .1 .1 .1 .1 .0))) (Sized (c .before .before .before .before .before .before .before .before .before .gather .last .1 .1 .1 .1 .1 .1 .1 .1 .1 .1 .0) (c .before .before .before .before .before .before .before .before .before .gather .last .1 .1 .1 .1 .1 .1 .0) (c .before .before .before .before .before .before .before .before .before .gather .last .1 .1 .1 .1 .1 .1 .1 .0) (c .before .before .before .before .before .before .before .before .before .gather .last .1 .1 .1 .1 .1 .1 .1 .1 .0) (c .before .before .before .before .before .before .before .before .before .gather .last .1 .1 .1 .1 .1 .1 .1 .1 .1 .0)) (c .before .before .before .before .before .before .before .before .before .gather .result) (c .before .before .before .before .before .before .before .before .before .gather .ensures) _ _ _ _ (c .before .before .before .before .before .before .before .second .given .1) (z .1) (omega (arith, z, c .before .before .before .before .before .before .before .before .before .before .before .before .before .before .before .before .before .before .before .before .before .before .before .before .before .before .before .pre .1 .0)) in (falls-again _ _ (c .before .before .before .before .before .before .before .before .before .before .before .before .before .before .before .before .before .before .before .before .before .before .before .before .before .before .before .pre .0) (c .before .before .before .before .before .before .before .before .before .before .before .before .before .before .before .before .before .before .before .before .before .before .before .before .if2 .left), ((y .0, y .1), child-whole (c .before .before .before .before .before .before .before .before .before .before .before .before .before .before .before .before .before .before .before .before .before .before .before .before .before .before .before .args .s .now) (c .before .before .before .before .before .before .before .before .before .before .before .before .before .before .before .before .before .before .before .before .before .before .before .before .before .before .before .args .at) (c .before .before .before .before .before .before .before .before .before .before .before .before .before .before .before .before .before .before .before .before .before .before .before .before .before .before .before .args .deep) (c .before .before .before .before .before .before .before .before .before .before .before .before .before .before .before .before .before .before .before .before .before .before .before .before .before .before .before .args .left) (c .before .before .before .before .before .before .before .before .before .before .before .before .before .before .before .before .before .before .before .before .before .before .before .before .before .if1 .left) (c .before .before .before .before .before .before .before .before .before .before .before .before .before .before .before .before .before .before .before .before .before .before .before .before .if2 .left) (c .before .before .before .before .before .before .before .before .before .before .before .before .before .before .before .before .before .before .before .before .before .before .before .if3 .left) _ _ _ H (c .before .before .before .before .before .before .before .before .before .before .before .before .before .before .before .before .before .before .before .before .before .before .before .before .before .before .before .args .keys) (c .before .before .before .before .before .before .before .before .before .before .before .before .before .before .before .before .before .before .before .before .before .before .before .before .before .before .before .args .lasts) (c .before .before .before .before .before .before .before .before .before .before .before .before .before .before .before .before .before .before .before .before .before .before .before .before .before .before .before .pre .1 .0 .0) (c .before .before .before .before .before .before .before .before .before .before .before .before .before .before .before .before .before .before .before .before .before .before .before .before .before .before .before .args .scopes .now) (c .before .before .before .before .before .before .before .before .before .before .before .before .before .before .before .enter .last .1 .1 .1 .1 .1 .1 .0) (c .before .before .before .before .before .before .before .before .before .before .before .before .before .before .before .before .before .before .before .before .before .before .before .before .before .before .before .args .all .now) (c .before .before .before .before .before .before .before .before .before .before .before .before .before .before .before .enter .last .1 .1 .1 .1 .1 .0) (rows (c .before .before .before .before .before .before .before .before .before .before .before .before .before .before .before .before .before .before .before .before .before .before .before .before .before .before .before .args .key .now) (c .before .before .before .before .before .before .before .before .before .before .before .before .before .before .before .before .before .before .before .before .before .before .before .before .before .before .before .args .action .now) (c .before .before .before .before .before .before .before .before .before .before .before .before .before .before .before .before .before .before .before .before .before .before .before .before .before .before .before .args .scope .now)) (c .before .before .before .before .before .before .before .before .before .before .before .before .before .before .before .enter .result) (c .before .before .before .before .before .before .before .before .before .before .before .before .before .before .before .enter .ensures) (arrays (c .before .before .before .before .before .before .before .before .before .gather .last .1 .1 .1 .1 .1 .1 .1 .1 .1 .1 .0) (c .before .before .before .before .before .before .before .before .before .gather .last .1 .1 .1 .1 .1 .1 .0) (rows (c .before .before .before .before .before .before .before .before .before .gather .last .1 .1 .1 .1 .1 .1 .1 .0) (c .before .before .before .before .before .before .before .before .before .gather .last .1 .1 .1 .1 .1 .1 .1 .1 .0) (c .before .before .before .before .before .before .before .before .before .gather .last .1 .1 .1 .1 .1 .1 .1 .1 .1 .0))) (Sized (c .before .before .before .before .before .before .before .before .before .gather .last .1 .1 .1 .1 .1 .1 .1 .1 .1 .1 .0) (c .before .before .before .before .before .before .before .before .before .gather .last .1 .1 .1 .1 .1 .1 .0) (c .before .before .before .before .before .before .before .before .before .gather .last .1 .1 .1 .1 .1 .1 .1 .0) (c .before .before .before .before .before .before .before .before .before .gather .last .1 .1 .1 .1 .1 .1 .1 .1 .0) (c .before .before .before .before .before .before .before .before .before .gather .last .1 .1 .1 .1 .1 .1 .1 .1 .1 .0)) (c .before .before .before .before .before .before .before .before .before .gather .result) (c .before .before .before .before .before .before .before .before .before .gather .ensures) _ _ _ _ (c .before .before .before .before .before .before .before .second .given .1) (few-rows (c .before .before .before .before .before .before .before .before .before .before .before .before .before .before .before .before .before .before .before .before .before .before .before .before .before .before .before .args .lasts) _ _ _ (c .before .before .before .before .before .before .before .before .before .before .before .before .before .before .before .before .before .before .before .before .before .before .before .before .before .before .before .pre .1 .1 .2) (c .before .before .before .before .before .before .before .before .before .before .before .before .before .before .before .before .before .before .before .before .before .before .before .before .before .before .before .pre .1 .1 .3) (c .before .before .before .before .before .before .before .before .before .before .before .before .before .before .before .before .before .before .before .before .before .before .before .before .before .before .before .pre .1 .1 .4) (omega (arith, c .before .before .before .before .before .before .before .before .before .before .before .before .before .before .before .before .before .before .before .before .before .before .before .before .before .before .before .pre .1 .0)))))
+gather-gather-requires-2 t c κs = let H = headed _ _ _ (c .before .before .before .before .before .before .before .before .before .before .before .before .before .before .before .before .before .before .before .before .before .before .node-at .ensures) _ _ _ (c .before .before .before .before .before .before .before .before .before .before .before .before .before .before .before .before .before .before .before .before .kind .given .1) in let z = entered (c .before .before .before .before .before .before .before .before .before .before .before .before .before .before .before .before .before .before .before .before .before .before .before .before .before .before .before .args .s .now) (c .before .before .before .before .before .before .before .before .before .before .before .before .before .before .before .before .before .before .before .before .before .before .before .before .before .before .before .args .at) (c .before .before .before .before .before .before .before .before .before .before .before .before .before .before .before .before .before .before .before .before .before .before .before .before .before .before .before .args .deep) (c .before .before .before .before .before .before .before .before .before .before .before .before .before .before .before .before .before .before .before .before .before .before .before .before .before .before .before .args .left) (c .before .before .before .before .before .before .before .before .before .before .before .before .before .before .before .before .before .before .before .before .before .before .before .before .before .if1 .left) (c .before .before .before .before .before .before .before .before .before .before .before .before .before .before .before .before .before .before .before .before .before .before .before .before .if2 .left) (c .before .before .before .before .before .before .before .before .before .before .before .before .before .before .before .before .before .before .before .before .before .before .before .if3 .left) _ _ _ H (c .before .before .before .before .before .before .before .before .before .before .before .before .before .before .before .before .before .before .before .before .before .before .before .before .before .before .before .args .keys) (c .before .before .before .before .before .before .before .before .before .before .before .before .before .before .before .before .before .before .before .before .before .before .before .before .before .before .before .args .lasts) (c .before .before .before .before .before .before .before .before .before .before .before .before .before .before .before .before .before .before .before .before .before .before .before .before .before .before .before .pre .1 .0 .0) _ _ _ _ _ (c .before .before .before .before .before .before .before .before .before .before .before .before .before .before .before .enter .result) (c .before .before .before .before .before .before .before .before .before .before .before .before .before .before .before .enter .ensures) in let y = room-left (c .before .before .before .before .before .before .before .before .before .before .before .before .before .before .before .before .before .before .before .before .before .before .before .before .before .before .before .args .s .now) _ _ _ _ _ _ (arrays (c .before .before .before .before .before .before .before .before .before .gather .last .1 .1 .1 .1 .1 .1 .1 .1 .1 .1 .0) (c .before .before .before .before .before .before .before .before .before .gather .last .1 .1 .1 .1 .1 .1 .0) (rows (c .before .before .before .before .before .before .before .before .before .gather .last .1 .1 .1 .1 .1 .1 .1 .0) (c .before .before .before .before .before .before .before .before .before .gather .last .1 .1 .1 .1 .1 .1 .1 .1 .0) (c .before .before .before .before .before .before .before .before .before .gather .last .1 .1 .1 .1 .1 .1 .1 .1 .1 .0))) (Sized (c .before .before .before .before .before .before .before .before .before .gather .last .1 .1 .1 .1 .1 .1 .1 .1 .1 .1 .0) (c .before .before .before .before .before .before .before .before .before .gather .last .1 .1 .1 .1 .1 .1 .0) (c .before .before .before .before .before .before .before .before .before .gather .last .1 .1 .1 .1 .1 .1 .1 .0) (c .before .before .before .before .before .before .before .before .before .gather .last .1 .1 .1 .1 .1 .1 .1 .1 .0) (c .before .before .before .before .before .before .before .before .before .gather .last .1 .1 .1 .1 .1 .1 .1 .1 .1 .0)) (c .before .before .before .before .before .before .before .before .before .gather .result) (c .before .before .before .before .before .before .before .before .before .gather .ensures) _ _ _ _ (c .before .before .before .before .before .before .before .second .given .1) (z .1) (omega (arith, z, c .before .before .before .before .before .before .before .before .before .before .before .before .before .before .before .before .before .before .before .before .before .before .before .before .before .before .before .pre .1 .0)) in (falls-again _ _ (c .before .before .before .before .before .before .before .before .before .before .before .before .before .before .before .before .before .before .before .before .before .before .before .before .before .before .before .pre .0) (c .before .before .before .before .before .before .before .before .before .before .before .before .before .before .before .before .before .before .before .before .before .before .before .before .if2 .left), ((y .0, y .1, c .before .before .before .before .before .before .before .before .before .before .before .before .before .before .before .before .before .before .before .before .before .before .before .before .before .before .before .pre .1 .0 .2), child-whole (c .before .before .before .before .before .before .before .before .before .before .before .before .before .before .before .before .before .before .before .before .before .before .before .before .before .before .before .args .s .now) (c .before .before .before .before .before .before .before .before .before .before .before .before .before .before .before .before .before .before .before .before .before .before .before .before .before .before .before .args .at) (c .before .before .before .before .before .before .before .before .before .before .before .before .before .before .before .before .before .before .before .before .before .before .before .before .before .before .before .args .deep) (c .before .before .before .before .before .before .before .before .before .before .before .before .before .before .before .before .before .before .before .before .before .before .before .before .before .before .before .args .left) (c .before .before .before .before .before .before .before .before .before .before .before .before .before .before .before .before .before .before .before .before .before .before .before .before .before .if1 .left) (c .before .before .before .before .before .before .before .before .before .before .before .before .before .before .before .before .before .before .before .before .before .before .before .before .if2 .left) (c .before .before .before .before .before .before .before .before .before .before .before .before .before .before .before .before .before .before .before .before .before .before .before .if3 .left) _ _ _ H (c .before .before .before .before .before .before .before .before .before .before .before .before .before .before .before .before .before .before .before .before .before .before .before .before .before .before .before .args .keys) (c .before .before .before .before .before .before .before .before .before .before .before .before .before .before .before .before .before .before .before .before .before .before .before .before .before .before .before .args .lasts) (c .before .before .before .before .before .before .before .before .before .before .before .before .before .before .before .before .before .before .before .before .before .before .before .before .before .before .before .pre .1 .0 .0) (c .before .before .before .before .before .before .before .before .before .before .before .before .before .before .before .before .before .before .before .before .before .before .before .before .before .before .before .args .scopes .now) (c .before .before .before .before .before .before .before .before .before .before .before .before .before .before .before .enter .last .1 .1 .1 .1 .1 .1 .0) (c .before .before .before .before .before .before .before .before .before .before .before .before .before .before .before .before .before .before .before .before .before .before .before .before .before .before .before .args .all .now) (c .before .before .before .before .before .before .before .before .before .before .before .before .before .before .before .enter .last .1 .1 .1 .1 .1 .0) (rows (c .before .before .before .before .before .before .before .before .before .before .before .before .before .before .before .before .before .before .before .before .before .before .before .before .before .before .before .args .key .now) (c .before .before .before .before .before .before .before .before .before .before .before .before .before .before .before .before .before .before .before .before .before .before .before .before .before .before .before .args .action .now) (c .before .before .before .before .before .before .before .before .before .before .before .before .before .before .before .before .before .before .before .before .before .before .before .before .before .before .before .args .scope .now)) (c .before .before .before .before .before .before .before .before .before .before .before .before .before .before .before .enter .result) (c .before .before .before .before .before .before .before .before .before .before .before .before .before .before .before .enter .ensures) (arrays (c .before .before .before .before .before .before .before .before .before .gather .last .1 .1 .1 .1 .1 .1 .1 .1 .1 .1 .0) (c .before .before .before .before .before .before .before .before .before .gather .last .1 .1 .1 .1 .1 .1 .0) (rows (c .before .before .before .before .before .before .before .before .before .gather .last .1 .1 .1 .1 .1 .1 .1 .0) (c .before .before .before .before .before .before .before .before .before .gather .last .1 .1 .1 .1 .1 .1 .1 .1 .0) (c .before .before .before .before .before .before .before .before .before .gather .last .1 .1 .1 .1 .1 .1 .1 .1 .1 .0))) (Sized (c .before .before .before .before .before .before .before .before .before .gather .last .1 .1 .1 .1 .1 .1 .1 .1 .1 .1 .0) (c .before .before .before .before .before .before .before .before .before .gather .last .1 .1 .1 .1 .1 .1 .0) (c .before .before .before .before .before .before .before .before .before .gather .last .1 .1 .1 .1 .1 .1 .1 .0) (c .before .before .before .before .before .before .before .before .before .gather .last .1 .1 .1 .1 .1 .1 .1 .1 .0) (c .before .before .before .before .before .before .before .before .before .gather .last .1 .1 .1 .1 .1 .1 .1 .1 .1 .0)) (c .before .before .before .before .before .before .before .before .before .gather .result) (c .before .before .before .before .before .before .before .before .before .gather .ensures) _ _ _ _ (c .before .before .before .before .before .before .before .second .given .1) (few-rows (c .before .before .before .before .before .before .before .before .before .before .before .before .before .before .before .before .before .before .before .before .before .before .before .before .before .before .before .args .lasts) _ _ _ (c .before .before .before .before .before .before .before .before .before .before .before .before .before .before .before .before .before .before .before .before .before .before .before .before .before .before .before .pre .1 .1 .2) (c .before .before .before .before .before .before .before .before .before .before .before .before .before .before .before .before .before .before .before .before .before .before .before .before .before .before .before .pre .1 .1 .3) (c .before .before .before .before .before .before .before .before .before .before .before .before .before .before .before .before .before .before .before .before .before .before .before .before .before .before .before .pre .1 .1 .4) (omega (arith, c .before .before .before .before .before .before .before .before .before .before .before .before .before .before .before .before .before .before .before .before .before .before .before .before .before .before .before .pre .1 .0)))))
 
 gather-enum-known-c-2 : (t : ℕ) → gather-lts.Need-enum-known-c-2 (node-at-reads.Asked, node-at-reads.Learnt, enter-reads.Asked, enter-reads.Learnt, gather-below t, gather.Post, over-prefix-reads.Asked, over-prefix-reads.Learnt, close-reads.Asked, close-reads.Learnt, over-two-reads.Asked, over-two-reads.Learnt) (gather-at t) gather.Post
 gather-enum-known-c-2 t c = search needs
@@ -126,7 +126,7 @@ pub +gather-spec : {M : Type 1} → statement M
     (gather-node-at-requires t)
     (gather-enum-told t)
     (gather-enum-known-kind t)
-    (gather-sub-t33 t)
+    (gather-sub-t35 t)
     (gather-returns-4 t)
     (gather-sub-enter t)
     (gather-enter-requires t)

@@ -1,10 +1,10 @@
--- `node_by` meets its contract: each return is one law of Heads, at the byte of kind that was read.
+-- `node_at` meets its contract: each return is one law of Heads, at the byte of kind that was read.
 use native.Mathlib.Omega.{arith}
 use mathlib.Core.Logic.{⊎-elim}
 use Rattle.reader.proofs.Heads.{room, at-kind, at-cut, at-action, at-zero, at-name, at-good}
 use borrow.Author.Needs.{needs}
-use Rattle.reader.proofs.node_by.Statement.{statement}
-use Rattle.reader.proofs.node_by.Tie as tie
+use Rattle.reader.proofs.node_at.Statement.{statement}
+use Rattle.reader.proofs.node_at.Tie as tie
 
 shared-slice-read-wide : tie.Need-shared-slice-read-wide
 shared-slice-read-wide c = search needs
@@ -60,8 +60,8 @@ add-t24 c = search needs
 returns-6 : tie.Need-returns-6
 returns-6 c = rw (c .before .before .before .before .before .before .before .before .before .pre .1 .1, c .before .before .before .before .before .before .before .before .before .pre .1 .0) (at-good (c .before .before .before .before .before .before .before .before .before .args .s .now) (c .before .before .before .before .before .before .before .before .before .args .at) (c .before .before .before .before .before .before .wide .result) (c .before .before .before .before .before .before .wide .ensures) (c .before .before .before .before .before .before .before .before .before .pre .0) (c .before .before .before .before .before .if1 .left) (rw (c .before .before .before .before .before .before .before .before .before .pre .1 .0) at (c .before .before .before .if2 .left)) (⊎-elim (λ u v. u .2 .left) (λ u v. absurd (u .left v)) (c .before .before .if3 .came)) (⊎-elim (λ u v. (u .2 .left, u .4 .left)) (λ u v. absurd (u .left v)) (c .before .if5 .came)))
 
-pub node-by-spec : {M : Type 1} → statement M
-node-by-spec =
+pub node-at-spec : {M : Type 1} → statement M
+node-at-spec =
     tie.close
     (tie.spec
     shared-slice-read-wide
