@@ -13,13 +13,14 @@ use reader::NODES;
 use reader::Node;
 use search::First;
 use search::next_step;
+use search::settle;
 use steps::Moved;
 use undos::listing::Rows;
 ghost use mathlib.Core.Path.{_≡_};
 ghost use Prim.Native.Nat.{_≤_};
 ghost use lib.ListN.{length};
 ghost use Rattle.index.specs.Whole.{SomeRows};
-ghost use Rattle.links.specs.Links.{Linked};
+ghost use Rattle.search.specs.Scan.{Settled};
 
 // No record has more forward steps than pairs of nodes.
 const MOST_STEPS: usize = NODES * NODES;
@@ -60,7 +61,7 @@ fn put_steps(
 ) -> usize
     requires { ⌜ (n ≤ 4096) × (length (now space) ≡ 4096) ⌝ }
     requires { ⌜ SomeRows nodes (now actions) (now scopes) (now sides) (now ends) ⌝ }
-    requires { ⌜ Linked nodes (now actions) (now scopes) (now twins) (now partners) ⌝ }
+    requires { ⌜ Settled nodes (now actions) (now scopes) (now sides) (now ends) (now twins) (now partners) ⌝ }
     ensures { λ r. ⌜ (r ≤ 4096) × (length (now (space .exit)) ≡ 4096) ⌝ }
 {
     let mut at = n;
@@ -185,6 +186,7 @@ pub fn list(bytes: &[u8]) {
             let mut twins = [0u16; NODES];
             let mut partners = [0u16; NODES];
             link(&actions, &scopes, n, &mut twins, &mut partners);
+            settle(&actions, &scopes, &sides, &ends, &twins, &mut partners, n);
             let a = put_counts(space, bytes, n);
             let b = put_steps(
                 space,

@@ -105,3 +105,25 @@ module _ (S E : List ℕ) where
         (λ j. laid-low live table side (n + 1) t p (L .1) (omega arith) j)
         (λ j. laid-low live table side (n + 1 + size t) u p (L .2) (omega arith) j)
     laid-low live table side n (res a t) p L h i = one-below n (size t) p (i .0) (omega arith) (λ e. rw (e, L .0 .2) h) (λ j. laid-low live (set table a (n + 1)) side (n + 1) t p (L .1) (omega arith) j)
+
+    -- past the first side s of a choice, all its nodes are barred from the nodes that s is barred from
+    abbrev pub OneSide : Node → Node → Type 0
+    OneSide s k = s ≤ k → k < getD E s 0 → getD E s 0 ≤ q → Barred S E (getD S k 0) q → Barred S E s q
+
+    -- the side of a node is that of the whole term, or the first side of a choice in it
+    pub laid-side : (live : Bool) (table : List ℕ) (side n : Node) (t : Term) (p k : Node) → Laid A R S E live table side n t → Inside n t p → (getD S p 0 ≡ side) ⊎ OneSide (getD S p 0) k
+    unfolding size
+    laid-side live table side n nil p k L i = let e : p ≡ n = omega arith in inl (rw e (L .2))
+    laid-side live table side n (pre a m t) p k L i = one-below n (size t) p (i .0) (omega arith) (λ e. inl (rw e (L .0 .2))) (λ j. laid-side _ table side (n + 1) t p k (L .1) j)
+    laid-side live table side n (cho t u) p k L i = two-below n (size t) (size u) p (i .0) (omega arith)
+        (λ e. inl (rw e (L .0 .2)))
+        (λ j. ⊎-elim (λ e. inr (rw e inside)) inr (laid-side _ table (n + 1) (n + 1) t p k (L .1) j))
+        (λ j. laid-side _ table side (n + 1 + size t) u p k (L .2) j)
+      where
+        inside : OneSide (n + 1) k
+        inside h g f = let e = laid-end _ table (n + 1) (n + 1) t (L .1) in barred-same _ table (n + 1) (n + 1) t k (L .1) (h, omega arith) (omega arith) .0
+    laid-side live table side n (par t u) p k L i = two-below n (size t) (size u) p (i .0) (omega arith)
+        (λ e. inl (rw e (L .0 .2)))
+        (λ j. laid-side live table side (n + 1) t p k (L .1) j)
+        (λ j. laid-side live table side (n + 1 + size t) u p k (L .2) j)
+    laid-side live table side n (res a t) p k L i = one-below n (size t) p (i .0) (omega arith) (λ e. inl (rw e (L .0 .2))) (λ j. laid-side live (set table a (n + 1)) side (n + 1) t p k (L .1) j)

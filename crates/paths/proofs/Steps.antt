@@ -17,7 +17,7 @@ use Rattle.format.specs.Encode.{InRange}
 use Rattle.operations.specs.Order.{FreeStep}
 use Rattle.paths.specs.Rows.{no-action, channel, no-scopes, Indexed, Alone, Joined}
 use Rattle.paths.proofs.Lines.{Laid, laid}
-use Rattle.paths.proofs.Climb.{barred-none, laid-low}
+use Rattle.paths.proofs.Climb.{OneSide, barred-none, laid-low, laid-side}
 use Rattle.paths.proofs.Names.{hidden, named}
 use Rattle.paths.proofs.Derived.{Told, one, two, step-told}
 use Rattle.paths.proofs.Drawn.{StepAt, scope-of, alone-step, joined-step}
@@ -36,6 +36,10 @@ module _ (A R S E : List ℕ) (t : Term) (I : Indexed A R S E t) (g : InRange t)
   -- no first side begins after a node that stands in it
   pub low-sides : (p : Node) → p < size t → getD S p 0 ≤ p
   low-sides p h = laid-low S E A R p true no-scopes 0 0 t p lines (omega arith) (omega arith, omega arith)
+
+  -- past a first side, its nodes are barred as it is
+  pub one-side : (p : Node) → p < size t → getD S p 0 ≢ 0 → (k q : Node) → OneSide S E A R q (getD S p 0) k
+  one-side p h f k q = ⊎-elim (λ e. absurd (f e)) (λ w. w) (laid-side S E A R q true no-scopes 0 0 t p k lines (omega arith, omega arith))
 
   -- the scope of a prefix that could step is a restriction of the term, or none
   pub low-scopes : (p : Node) → p < size t → getD A p 0 ≢ no-action → getD R p 0 ≤ size t

@@ -2,4 +2,5 @@
 pub mod Parts
 pub mod Sought
 pub mod Reached
+pub mod Settling
 pub mod Answers

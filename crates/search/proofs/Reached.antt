@@ -12,11 +12,12 @@ use Rattle.format.specs.Limits.{node-limit}
 use Rattle.operations.specs.Order.{AtOrAfter, FreeStep, NoFreeStep, FirstFrom}
 use Rattle.paths.specs.Rows.{no-action, Barred, Alone, Joined}
 use Rattle.paths.proofs.Channels.{co-action}
-use Rattle.paths.proofs.Steps.{low-sides, free-alone, free-joined}
+use Rattle.paths.proofs.Steps.{low-sides, one-side, free-alone, free-joined}
 use Rattle.index.specs.Whole.{Rows}
-use Rattle.links.specs.Links.{turn, Able, Scoped, Next, Linked}
-use Rattle.links.proofs.Turns.{co-turn, turn-co, rows-scoped}
-use Rattle.search.specs.Scan.{Mate, Sought, LowSides, Climbed, Clear}
+use Rattle.links.specs.Links.{turn, Able, Scoped, Next}
+use Rattle.links.proofs.Turns.{turn-co, rows-scoped}
+use Rattle.search.specs.Scan.{Mate, Sought, LowSides, OneSide, Climbed, Clear}
+use Rattle.search.proofs.Sought.{joined-mate}
 
 -- the label of a step, by the row of actions
 abbrev pub labelOf : List ℕ → Node → Node → Label
@@ -31,9 +32,6 @@ module _ (A R S E : List ℕ) (n : ℕ) where
   -- from j to before k, i has no partner
   abbrev pub Passed : Node → Node → Node → Type 0
   Passed i j k = (j′ : Node) → j ≤ j′ → j′ < k → j′ < n → ¬ Joined A R S E i j′
-
-  joined-mate : (i j : Node) → j < n → Joined A R S E i j → Mate n A R i j
-  joined-mate i j h J = ((h, co-action _ _ (J .complementary) .1), co-turn _ _ (J .complementary), sym (J .together))
 
   -- the side from which the search goes up stands for that of i
   abbrev pub Above : Node → Node → Node → Type 0
@@ -74,21 +72,21 @@ module _ (A R S E : List ℕ) (n : ℕ) where
         rest i′ j′ g a (no h) = inr (g .0, omega arith)
 
     -- i does not step alone: its partners come next
-    pub reached-pairs : (i from j : Node) → Reached i from → ((from ≡ 0) × (getD R i 0 ≡ 0) → ⊥) → Sought n A R i from j → Reached i j
-    reached-pairs i from j r f s = reached-past i from j r (s .after) (λ j′ o l a. ⊎-elim (λ b. f (omega (arith, b .0), b .1 .open-above)) (λ b. s .first j′ (b .1 .order) o l (joined-mate i j′ (b .0) (b .1))) (a .1))
+    pub reached-pairs : (i from j : Node) → Reached i from → ((from ≡ 0) × (getD R i 0 ≡ 0) → ⊥) → Sought n A R S E i from j → Reached i j
+    reached-pairs i from j r f s = reached-past i from j r (s .after) (λ j′ o l a. ⊎-elim (λ b. f (omega (arith, b .0), b .1 .open-above)) (λ b. s .first j′ (b .1 .order) o l (b .0) (b .1)) (a .1))
 
     -- from j to before k, i has no partner
     pub reached-pass : (i j k : Node) → Reached i j → i < j → j ≤ k → Passed i j k → Reached i k
     reached-pass i j k r o h f = reached-past i j k r h (λ j′ l g a. ⊎-elim (λ b. omega arith) (λ b. f j′ l g (b .0) (b .1)) (a .1))
 
 -- one turn of the search for a partner of i
-module _ (A R S E T P : List ℕ) (n k i j side r : ℕ) (c : Bool) (few : n ≤ node-limit) (scoped : Scoped n A R) (able : Able n A R i) (L : Linked n A R T P) (m : Mate n A R i j)
-    (a : Above A R S E n i j side) (C : Climbed side j S E r) (D : Clear r j E c) where
-  above-more : Above A R S E n i j r
+module _ (A R S E T : List ℕ) (n k i j side r : ℕ) (c : Bool) (few : n ≤ node-limit) (scoped : Scoped n A R) (able : Able n A R i) (twins : (x : Node) → Able n A R x → Next n A R (getD A x 0) (getD R x 0) (x + 1) (getD T x 0)) (m : Mate n A R i j)
+    (a : Above A R S E n i j side) (C : Climbed n side j S E r) (D : Clear r j E c) where
+  pub above-more : Above A R S E n i j r
   above-more = (omega (arith, a .0, C .low), λ l h. (λ x. C .same l h .0 (a .1 l h .0 x), λ x. a .1 l h .1 (C .same l h .1 x)))
 
   -- i is barred from j
-  barred-partner : c ≡ false → ¬ Joined A R S E i j
+  pub barred-partner : c ≡ false → ¬ Joined A R S E i j
   barred-partner e J = true≢false (sym (D .tells S .1 (λ x. J .apart (above-more .1 j (omega arith) .1 x))) ∙ e)
 
   -- j is a partner of i
@@ -103,7 +101,10 @@ module _ (A R S E T P : List ℕ) (n k i j side r : ℕ) (c : Bool) (few : n ≤
   -- the search goes on at the twin of j
   module _ (x : Node) (q : x ≡ getD T j 0) where
     twin-next : Next n A R (turn (getD A i 0)) (getD R i 0) (j + 1) x
-    twin-next = rw (← m .1, ← m .2, q) (L .twin j (m .0))
+    twin-next = rw (← m .1, ← m .2, q) (twins j (m .0))
+
+    pub twin-low : x ≤ node-limit
+    twin-low = ⊎-elim (λ z. omega arith) (λ z. omega (arith, z .0 .0)) (twin-next .there)
 
     pub twin-after : j < x
     twin-after = omega (arith, twin-next .after)
@@ -167,3 +168,6 @@ module _ (t : Term) (n : ℕ) (A R S E : List ℕ) (W : Rows t n A R S E) where
 
   pub rows-scopes : Scoped n A R
   rows-scopes = rows-scoped A R S E n t (W .rows) (W .fits) (W .count)
+
+  pub rows-sides : (c : Node) → c < n → OneSide S E (getD S c 0)
+  rows-sides c h f = one-side A R S E t (W .rows) (W .fits .range) c (omega (arith, W .count)) f

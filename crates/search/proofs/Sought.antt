@@ -9,42 +9,49 @@ use native.Mathlib.Omega.{arith}
 use lib.ListN.{getD}
 use Rattle.ccsk.specs.Term.{Label, Node}
 use Rattle.format.specs.Limits.{node-limit}
-use Rattle.links.specs.Links.{turn, Able, Linked}
-use Rattle.search.specs.Scan.{Agrees, Mate, Sought}
+use Rattle.paths.specs.Rows.{Joined}
+use Rattle.paths.proofs.Channels.{co-action}
+use Rattle.links.specs.Links.{turn, Able}
+use Rattle.links.proofs.Turns.{co-turn}
+use Rattle.search.specs.Scan.{Agrees, Mate, Settled, Sought}
 
-module _ (n : ℕ) (A R : List ℕ) (i from : Node) where
-  -- no mate stands from `from` to before j
-  abbrev pub NoneYet : Node → Type 0
-  NoneYet j = (k : Node) → from ≤ k → k < j → ¬ Mate n A R i k
+-- two that step together are mates
+pub joined-mate : (A R S E : List ℕ) (n i j : Node) → j < n → Joined A R S E i j → Mate n A R i j
+joined-mate A R S E n i j h J = ((h, co-action _ _ (J .complementary) .1), co-turn _ _ (J .complementary), sym (J .together))
 
-  -- the search has come to the end
-  pub sought-none : (j : Node) → i + 1 < from → from ≤ j → n ≤ j → NoneYet j → Sought n A R i from j
-  sought-none j o c h f = record { past = omega arith; after = c; first = λ k d l g. f k l g; there = λ l. absurd (omega arith) }
+-- no mate of i stands from `from` to before j
+abbrev pub NoneYet : ℕ → List ℕ → List ℕ → Node → Node → Node → Type 0
+NoneYet n A R i from j = (k : Node) → from ≤ k → k < j → ¬ Mate n A R i k
 
-module _ (n : ℕ) (A R T P : List ℕ) (i from : Node) (able : Able n A R i) (few : n ≤ node-limit) (L : Linked n A R T P) where
-  pub sought-partner : (x : Node) → from ≤ i + 1 → x ≡ getD P i 0 → Sought n A R i from x
-  sought-partner x h e = let p = L .partner i able in rw e (record { past = omega (arith, p .after); after = omega (arith, p .after); first = λ j o g l. p .first j (omega arith) l; there = λ l. ⊎-elim (λ z. absurd (omega arith)) (λ o. o) (p .there) })
+-- one turn of the search for a mate: the test of the node j
+module _ (n : ℕ) (A R : List ℕ) (i from : Node) (w : Label) (W : w ≡ turn (getD A i 0)) (j : Node) (b : Bool) (G : Agrees w (getD A j 0) (getD R j 0) (getD R i 0) b) where
+  agreed : b ≡ true → j < n → Mate n A R i j
+  agreed e h = let g = G .tells .0 e in ((h, λ z. g .0 .1 (g .0 .0 ∙ z)), sym (g .0 .0) ∙ W, g .1)
 
-  module _ (w : Label) (W : w ≡ turn (getD A i 0)) (j : Node) (b : Bool) (G : Agrees w (getD A j 0) (getD R j 0) (getD R i 0) b) where
-    agreed : b ≡ true → j < n → Mate n A R i j
-    agreed e h = let g = G .tells .0 e in ((h, λ z. g .0 .1 (g .0 .0 ∙ z)), sym (g .0 .0) ∙ W, g .1)
+  pub sought-more : b ≡ false → NoneYet n A R i from j → NoneYet n A R i from (j + 1)
+  sought-more e f k h l = pick (ℕ-discrete k j)
+    where
+      pick : Dec (k ≡ j) → ¬ Mate n A R i k
+      pick (yes q) g = let g′ = rw q at g in true≢false (sym (G .tells .1 ((W ∙ sym (g′ .1), λ z. g′ .0 .1 (g′ .1 ∙ sym W ∙ z)), g′ .2)) ∙ e)
+      pick (no q) g = f k h (omega arith) g
+
+  module _ (S E : List ℕ) where
+    pub sought-here : b ≡ true → j < n → i + 1 < from → from ≤ j → NoneYet n A R i from j → Sought n A R S E i from j
+    sought-here e h o c f = record { past = omega arith; after = c; first = λ k d l g m J. f k l g (joined-mate A R S E n i k m J); there = λ l. agreed e h }
 
     -- the question goes on after j
-    pub sought-twin : (x : Node) → b ≡ true → j < n → i + 1 < from → from ≡ j + 1 → x ≡ getD T j 0 → Sought n A R i from x
-    sought-twin x e h o f q = let g = agreed e h in let t = L .twin j (g .0) in rw q (record {
+    pub sought-twin : (T P : List ℕ) (x : Node) → n ≤ node-limit → b ≡ true → j < n → i + 1 < from → from ≡ j + 1 → x ≡ getD T j 0 → Settled n A R S E T P → Sought n A R S E i from x
+    sought-twin T P x few e h o f q L = let g = agreed e h in let t = L .twin j (g .0) in rw q (record {
       past = omega (arith, t .after);
       after = omega (arith, t .after);
-      first = λ k d c l. rw (g .1, g .2) at (t .first k (omega arith) l);
+      first = λ k d c l m J. (rw (g .1, g .2) at (t .first k (omega arith) l)) (joined-mate A R S E n i k m J);
       there = λ l. ⊎-elim (λ z. absurd (omega arith)) (λ z. rw (g .1, g .2) at z) (t .there);
     })
 
-    -- so far none from `from` to before j
-    pub sought-here : b ≡ true → j < n → i + 1 < from → from ≤ j → NoneYet n A R i from j → Sought n A R i from j
-    sought-here e h o c f = record { past = omega arith; after = c; first = λ k d l g. f k l g; there = λ l. agreed e h }
+module _ (n : ℕ) (A R S E : List ℕ) (i from : Node) where
+  pub sought-partner : (T P : List ℕ) (x : Node) → Able n A R i → from ≤ i + 1 → x ≡ getD P i 0 → Settled n A R S E T P → Sought n A R S E i from x
+  sought-partner T P x a h e L = let p = L .partner i a in rw e (record { past = p .past; after = omega (arith, p .past); first = λ j o g l. p .none j o l; there = λ l. joined-mate A R S E n i _ l (p .there l) })
 
-    pub sought-more : b ≡ false → NoneYet n A R i from j → NoneYet n A R i from (j + 1)
-    sought-more e f k h l = pick (ℕ-discrete k j)
-      where
-        pick : Dec (k ≡ j) → ¬ Mate n A R i k
-        pick (yes q) g = let g′ = rw q at g in true≢false (sym (G .tells .1 ((W ∙ sym (g′ .1), λ z. g′ .0 .1 (g′ .1 ∙ sym W ∙ z)), g′ .2)) ∙ e)
-        pick (no q) g = f k h (omega arith) g
+  -- the search has come to the end
+  pub sought-none : (j : Node) → i + 1 < from → from ≤ j → n ≤ j → NoneYet n A R i from j → Sought n A R S E i from j
+  sought-none j o c h f = record { past = omega arith; after = c; first = λ k d l g m J. f k l g (joined-mate A R S E n i k m J); there = λ l. absurd (omega arith) }

@@ -9,7 +9,7 @@ ghost use Rattle.operations.specs.Ask.{FirstStep};
 ghost use Rattle.index.specs.Whole.{SomeRows};
 ghost use Rattle.search.specs.First.{refusal, found, first-place, second-place, label, Next};
 ghost use Rattle.links.specs.Links.{Able, Linked};
-ghost use Rattle.search.specs.Scan.{Agrees, Sought, LowSides, Climbed, Reaches, Clear};
+ghost use Rattle.search.specs.Scan.{Agrees, Settled, Seeks, LowSides, Climbed, Reaches, Clear};
 use index::index;
 use links::link;
 use links::turned;
@@ -56,9 +56,9 @@ fn seek(
     i: usize,
     from: usize,
 ) -> usize
-    requires { ⌜ (nodes ≤ node-limit) × Able nodes (now actions) (now scopes) i × Linked nodes (now actions) (now scopes) (now twins) (now partners) ⌝ }
-    requires { ⌜ (length (now actions) ≡ node-limit) × (length (now scopes) ≡ node-limit) ⌝ }
-    ensures { λ r. ⌜ Sought nodes (now (actions .entry)) (now (scopes .entry)) i from r ⌝ }
+    requires { ⌜ (nodes ≤ node-limit) × Able nodes (now actions) (now scopes) i ⌝ }
+    requires { ⌜ (length (now actions) ≡ node-limit) × (length (now scopes) ≡ node-limit) × (length (now twins) ≡ node-limit) × (length (now partners) ≡ node-limit) ⌝ }
+    ensures { λ r. ⌜ Seeks nodes (now (actions .entry)) (now (scopes .entry)) (now (twins .entry)) (now (partners .entry)) i from r ⌝ }
 {
     if from <= i + 1 {
         return number(partners[i]);
@@ -83,7 +83,7 @@ fn seek(
 // From the first side of a choice, or 0, up to the first side of the nearest choice that does not end before node q.
 fn climb(side: usize, q: usize, nodes: usize, sides: &[u16; NODES], ends: &[u16; NODES]) -> usize
     requires { ⌜ (side ≤ nodes) × (nodes ≤ node-limit) × LowSides nodes (now sides) × (length (now sides) ≡ node-limit) × (length (now ends) ≡ node-limit) ⌝ }
-    ensures { λ r. ⌜ Climbed side q (now (sides .entry)) (now (ends .entry)) r ⌝ }
+    ensures { λ r. ⌜ Climbed nodes side q (now (sides .entry)) (now (ends .entry)) r ⌝ }
 {
     let mut c = side;
     while c != 0 {
@@ -117,6 +117,48 @@ fn is_alone(from: usize, scope: u16) -> bool
     false
 }
 
+// Leads the link of each place past the partners that a choice parts from it, from the last node to the first. Where the place's twin
+// stands in the same side of that choice, its link has been led past all of the choice already.
+pub fn settle(
+    actions: &[u8; NODES],
+    scopes: &[u16; NODES],
+    sides: &[u16; NODES],
+    ends: &[u16; NODES],
+    twins: &[u16; NODES],
+    partners: &mut [u16; NODES],
+    nodes: usize,
+)
+    requires { ⌜ SomeRows nodes (now actions) (now scopes) (now sides) (now ends) ⌝ }
+    requires { ⌜ Linked nodes (now actions) (now scopes) (now twins) (now partners) ⌝ }
+    ensures { λ _. ⌜ Settled nodes (now (actions .entry)) (now (scopes .entry)) (now (sides .entry)) (now (ends .entry)) (now (twins .entry)) (now (partners .exit)) ⌝ }
+{
+    let mut i = nodes;
+    while 0 < i {
+        i -= 1;
+        if actions[i] == NO_ACTION {
+            continue;
+        }
+        let twin = number(twins[i]);
+        let mut side = number(sides[i]);
+        let mut j = number(partners[i]);
+        'partner: while j < nodes {
+            side = climb(side, j, nodes, sides, ends);
+            if is_clear(side, j, ends) {
+                break 'partner;
+            }
+            if twin < number(ends[side]) {
+                let led = number(partners[twin]);
+                if j < led {
+                    j = led;
+                    continue 'partner;
+                }
+            }
+            j = number(twins[j]);
+        }
+        partners[i] = j as u16;
+    }
+}
+
 // The first step at or after (p, q), by the rows that `index` has filled for a record of so many nodes. A listing asks it again and again.
 // The links pass over every node that a place could not join with, and going up past choices costs each place no more than its depth.
 pub fn next_step(
@@ -131,7 +173,7 @@ pub fn next_step(
     q: Node,
 ) -> First
     requires { ⌜ SomeRows nodes (now actions) (now scopes) (now sides) (now ends) ⌝ }
-    requires { ⌜ Linked nodes (now actions) (now scopes) (now twins) (now partners) ⌝ }
+    requires { ⌜ Settled nodes (now actions) (now scopes) (now sides) (now ends) (now twins) (now partners) ⌝ }
     ensures { λ r. ⌜ Next nodes (now (actions .entry)) (now (scopes .entry)) (now (sides .entry)) (now (ends .entry)) (p .0) (q .0) r ⌝ }
 {
     let mut i = number(p.0);
@@ -186,6 +228,7 @@ pub fn first_step(record: &[u8], p: Node, q: Node) -> First
             let mut twins = [0u16; NODES];
             let mut partners = [0u16; NODES];
             link(&actions, &scopes, n, &mut twins, &mut partners);
+            settle(&actions, &scopes, &sides, &ends, &twins, &mut partners, n);
             next_step(&actions, &scopes, &sides, &ends, &twins, &partners, n, p, q)
         }
     }

@@ -19,13 +19,13 @@ mul-number : tie.Need-mul-number Inv-loop μ-loop
 mul-number c = omega (arith, c .before .pre .0 .1 .0)
 
 element-copy-out-number : tie.Need-element-copy-out-number Inv-loop μ-loop
-element-copy-out-number c = omega (arith, c .before .pre .0 .1 .0, c .before .pre .0 .2 .partner-room)
+element-copy-out-number c = omega (arith, c .before .pre .0 .1 .0)
 
 number-requires : tie.Need-number-requires Inv-loop μ-loop
 number-requires c κs = tt
 
 returns : tie.Need-returns Inv-loop μ-loop
-returns c = sought-partner _ _ _ _ _ _ _ (c .before .before .before .pre .0 .1) (c .before .before .before .pre .0 .0) (c .before .before .before .pre .0 .2) _ (c .before .before .if1 .taken) (c .number .ensures)
+returns c = λ S E L. sought-partner _ _ _ S E _ _ _ _ _ (c .before .before .before .pre .0 .1) (c .before .before .if1 .taken) (c .number .ensures) L
 
 element-copy-out-turned : tie.Need-element-copy-out-turned Inv-loop μ-loop
 element-copy-out-turned c = omega (arith, c .before .pre .0 .1 .0)
@@ -58,13 +58,13 @@ mul-number-2 : tie.Need-mul-number-2 Inv-loop μ-loop
 mul-number-2 c = omega arith
 
 element-copy-out-number-2 : tie.Need-element-copy-out-number-2 Inv-loop μ-loop
-element-copy-out-number-2 c = omega (arith, c .before .before .before .before .before .before .before .before .before .pre .0 .2 .twin-room)
+element-copy-out-number-2 c = omega arith
 
 number-requires-2 : tie.Need-number-requires-2 Inv-loop μ-loop
 number-requires-2 c κs = tt
 
 returns-2 : tie.Need-returns-2 Inv-loop μ-loop
-returns-2 c = sought-twin _ _ _ _ _ _ _ (c .before .before .before .before .before .before .before .before .before .before .before .pre .0 .1) (c .before .before .before .before .before .before .before .before .before .before .before .pre .0 .0) (c .before .before .before .before .before .before .before .before .before .before .before .pre .0 .2) (c .before .before .before .before .before .before .before .before .turned .result) (c .before .before .before .before .before .before .before .before .turned .ensures) (c .before .before .before .before .before .before .before .before .before .before .before .args .from - 1) (c .before .before .before .agree .result) (c .before .before .before .agree .ensures) _ (c .before .before .if3 .taken) (c .before .before .before .before .before .before .before .if2 .taken) (omega arith) (omega arith) (c .number2 .ensures)
+returns-2 c = λ S E L. sought-twin _ _ _ _ _ (c .before .before .before .before .before .before .before .before .turned .result) (c .before .before .before .before .before .before .before .before .turned .ensures) (c .before .before .before .before .before .before .before .before .before .before .before .args .from - 1) (c .before .before .before .agree .result) (c .before .before .before .agree .ensures) S E _ _ _ (c .before .before .before .before .before .before .before .before .before .before .before .pre .0 .0) (c .before .before .if3 .taken) (c .before .before .before .before .before .before .before .if2 .taken) (omega arith) (omega arith) (c .number2 .ensures) L
 
 loop-holds : tie.Need-loop-holds Inv-loop μ-loop
 loop-holds c = (omega arith, λ k h l. absurd (omega arith))
@@ -88,7 +88,7 @@ agree-requires-2 : tie.Need-agree-requires-2 Inv-loop μ-loop
 agree-requires-2 c κs = tt
 
 returns-3 : tie.Need-returns-3 Inv-loop μ-loop
-returns-3 c = sought-here _ _ _ _ _ _ _ (c .before .before .before .before .before .before .before .before .before .before .before .pre .0 .1) (c .before .before .before .before .before .before .before .before .before .before .before .pre .0 .0) (c .before .before .before .before .before .before .before .before .before .before .before .pre .0 .2) (c .before .before .before .before .before .before .before .before .turned .result) (c .before .before .before .before .before .before .before .before .turned .ensures) (c .before .before .before .before .before .before .loop .j) (c .before .agree2 .result) (c .before .agree2 .ensures) (c .if4 .taken) (c .before .before .before .before .before .loop-test .taken) (omega arith) (c .before .before .before .before .before .before .loop .inv .0) (c .before .before .before .before .before .before .loop .inv .1)
+returns-3 c = λ S E L. sought-here _ _ _ _ _ (c .before .before .before .before .before .before .before .before .turned .result) (c .before .before .before .before .before .before .before .before .turned .ensures) (c .before .before .before .before .before .before .loop .j) (c .before .agree2 .result) (c .before .agree2 .ensures) S E (c .if4 .taken) (c .before .before .before .before .before .loop-test .taken) (omega arith) (c .before .before .before .before .before .before .loop .inv .0) (c .before .before .before .before .before .before .loop .inv .1)
 
 add-j : tie.Need-add-j Inv-loop μ-loop
 add-j c = omega arith
@@ -97,10 +97,10 @@ loop-less : tie.Need-loop-less Inv-loop μ-loop
 loop-less c = omega arith
 
 loop-again : tie.Need-loop-again Inv-loop μ-loop
-loop-again c = (omega (arith, c .before .before .before .before .before .before .loop .inv .0), sought-more _ _ _ _ _ _ _ (c .before .before .before .before .before .before .before .before .before .before .before .pre .0 .1) (c .before .before .before .before .before .before .before .before .before .before .before .pre .0 .0) (c .before .before .before .before .before .before .before .before .before .before .before .pre .0 .2) (c .before .before .before .before .before .before .before .before .turned .result) (c .before .before .before .before .before .before .before .before .turned .ensures) (c .before .before .before .before .before .before .loop .j) (c .before .agree2 .result) (c .before .agree2 .ensures) (c .if4 .left) (c .before .before .before .before .before .before .loop .inv .1))
+loop-again c = (omega (arith, c .before .before .before .before .before .before .loop .inv .0), sought-more (c .before .before .before .before .before .before .before .before .before .before .before .args .nodes) (c .before .before .before .before .before .before .before .before .before .before .before .args .actions .now) (c .before .before .before .before .before .before .before .before .before .before .before .args .scopes .now) (c .before .before .before .before .before .before .before .before .before .before .before .args .i) (c .before .before .before .before .before .before .before .before .before .before .before .args .from) (c .before .before .before .before .before .before .before .before .turned .result) (c .before .before .before .before .before .before .before .before .turned .ensures) (c .before .before .before .before .before .before .loop .j) (c .before .agree2 .result) (c .before .agree2 .ensures) (c .if4 .left) (c .before .before .before .before .before .before .loop .inv .1))
 
 returns-4 : tie.Need-returns-4 Inv-loop μ-loop
-returns-4 c = sought-none _ _ _ _ _ (c .before .loop .j) (omega arith) (c .before .loop .inv .0) (omega arith) (c .before .loop .inv .1)
+returns-4 c = λ S E L. sought-none _ _ _ S E _ _ (c .before .loop .j) (omega arith) (c .before .loop .inv .0) (omega arith) (c .before .loop .inv .1)
 
 pub seek-spec : {M : Type 1} → statement M
 seek-spec =

@@ -23,11 +23,14 @@ enum-known-n c = search needs
 link-requires : tie.Need-link-requires
 link-requires c κs = let f = index-filled (c .before .before .before .before .before .before .before .before .before .before .before .before .before .before .args .bytes .now) _ _ _ _ (c .before .before .before .before .before .before .before .index .result) (c .before .before .before .before .before .before .before .index .ensures) _ (c .before .before .before .before .before .n .given .1) in ((rows-few (f .0) _ _ _ _ _ (f .2), rows-scopes (f .0) _ _ _ _ _ (f .2)), (f .2 .action-room, f .2 .scope-room, search needs, search needs))
 
+settle-requires : tie.Need-settle-requires
+settle-requires c κs = let f = index-filled (c .before .before .before .before .before .before .before .before .before .before .before .before .before .before .before .before .before .before .before .before .before .args .bytes .now) _ _ _ _ (c .before .before .before .before .before .before .before .before .before .before .before .before .before .before .index .result) (c .before .before .before .before .before .before .before .before .before .before .before .before .before .before .index .ensures) _ (c .before .before .before .before .before .before .before .before .before .before .before .before .n .given .1) in ((f .0, f .2), c .before .before .before .before .before .before .link .ensures)
+
 put-counts-requires : tie.Need-put-counts-requires
 put-counts-requires c κs = search needs
 
 put-steps-requires : tie.Need-put-steps-requires
-put-steps-requires c κs = let f = index-filled (c .before .before .before .before .before .before .before .before .before .before .before .before .before .before .before .before .before .before .before .before .before .before .before .before .before .before .args .bytes .now) _ _ _ _ (c .before .before .before .before .before .before .before .before .before .before .before .before .before .before .before .before .before .before .before .index .result) (c .before .before .before .before .before .before .before .before .before .before .before .before .before .before .before .before .before .before .before .index .ensures) _ (c .before .before .before .before .before .before .before .before .before .before .before .before .before .before .before .before .before .n .given .1) in ((c .before .before .before .before .before .before .before .before .before .put-counts .ensures .0, c .before .before .before .before .before .before .before .before .before .put-counts .ensures .1), ((f .0, f .2), c .before .before .before .before .before .before .before .before .before .before .before .link .ensures))
+put-steps-requires c κs = let f = index-filled (c .before .before .before .before .before .before .before .before .before .before .before .before .before .before .before .before .before .before .before .before .before .before .before .before .before .before .before .before .before .before .before .before .before .args .bytes .now) _ _ _ _ (c .before .before .before .before .before .before .before .before .before .before .before .before .before .before .before .before .before .before .before .before .before .before .before .before .before .before .index .result) (c .before .before .before .before .before .before .before .before .before .before .before .before .before .before .before .before .before .before .before .before .before .before .before .before .before .before .index .ensures) _ (c .before .before .before .before .before .before .before .before .before .before .before .before .before .before .before .before .before .before .before .before .before .before .before .before .n .given .1) in ((c .before .before .before .before .before .before .before .before .before .put-counts .ensures .0, c .before .before .before .before .before .before .before .before .before .put-counts .ensures .1), ((f .0, f .2), c .before .before .before .before .before .before .before .before .before .before .before .settle .ensures))
 
 put-allowed-requires : tie.Need-put-allowed-requires
 put-allowed-requires c κs = search needs
@@ -51,6 +54,7 @@ list-spec =
     list-refused-requires
     enum-known-n
     link-requires
+    settle-requires
     put-counts-requires
     put-steps-requires
     put-allowed-requires
