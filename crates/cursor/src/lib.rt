@@ -1,20 +1,21 @@
 // A plain cursor over a record (01, The record): it shows kind, body and depth of each node in preorder, and goes on to the next.
 ghost use Rattle.cursor.specs.At.{Opens, Shows, Goes, DueAt, Made};
 use reader::Count;
+use reader::DEPTH;
 use reader::Head;
 use reader::Node;
 
 // The limits of a record, as the cursor's numbers are held.
-const NODES: u16 = 4096;
+const NODES: u16 = reader::NODES as u16;
 
-const LEVELS: u16 = 256;
+const LEVELS: u16 = reader::DEPTH as u16;
 
 // A refusal number, or where the next node stands, its number, and the depths of the `many` nodes that are due: the next one last.
 pub struct Cursor {
     pub refusal: u8,
     pub at: usize,
     pub node: Node,
-    pub due: [u16; 256],
+    pub due: [u16; DEPTH],
     pub many: usize,
 }
 
@@ -33,7 +34,7 @@ pub enum Shown {
 pub fn open(bytes: &[u8]) -> Cursor
     ensures { λ r. ⌜ Opens (now (bytes .entry)) r ⌝ }
 {
-    let mut due = [0u16; 256];
+    let mut due = [0u16; DEPTH];
     match reader::read(bytes) {
         Count::Refused(c) => Cursor {
             refusal: c,
@@ -97,7 +98,7 @@ pub fn show(bytes: &[u8], c: Cursor) -> Shown
 }
 
 // A cursor at a node with this number, with these depths due.
-fn standing(at: usize, number: u16, due: [u16; 256], many: usize) -> Cursor
+fn standing(at: usize, number: u16, due: [u16; DEPTH], many: usize) -> Cursor
     ensures { λ r. ⌜ Made at number due many r ⌝ }
 {
     Cursor {
