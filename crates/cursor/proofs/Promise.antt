@@ -13,7 +13,7 @@ use Rattle.format.specs.Preorder.{preorder}
 use Rattle.format.proofs.Unique.{encode-decode}
 use Rattle.reader.specs.Head.{NoNodeAt, Headed}
 use Rattle.reader.specs.declared.Head.{Head}
-use Rattle.reader.specs.declared.Head.the-variants.{Bad}
+use Rattle.reader.specs.declared.Head.the-variants.{Refused}
 use Rattle.reader.specs.declared.Head.the-variants as head
 use Rattle.cursor.specs.declared.Cursor.{Cursor}
 use Rattle.cursor.specs.declared.Shown.the-variants as answer
@@ -73,13 +73,13 @@ module _ (s : List ℕ) (c : Cursor) where
 
     -- the answer of `node_at` is that of `due_at`, where no test failed
     pub due-head : (h : Head) → c .many ≤ 256 → c .node .0 < 4096 → Headed s (c .at) h → DueAt s c h
-    due-head Bad m n H = idle-bad H
+    due-head (Refused r) m n H = idle-bad (H .1)
     due-head (head.Node kind children next) m n H = record { head = H; some = omega arith; few = m; number = n }
 
   -- the answer of `due_at`, once its case is known
   module _ (h : Head) (D : DueAt s c h) where
-    pub due-idle : h ≡ Bad → Idle s c
-    due-idle e = subst (DueAt s c) e D
+    pub due-idle : (r : ℕ) → h ≡ Refused r → Idle s c
+    due-idle r e = subst (DueAt s c) e D
 
     pub due-ready : (kind children next : ℕ) → h ≡ head.Node kind children next → Ready s c kind children next
     due-ready kind children next e = subst (DueAt s c) e D

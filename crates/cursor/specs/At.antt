@@ -10,7 +10,7 @@ use Rattle.format.specs.Read.{Reads, Refuses}
 use Rattle.format.specs.Preorder as term
 use Rattle.reader.specs.Head.{NodeAt}
 use Rattle.reader.specs.declared.Head.{Head}
-use Rattle.reader.specs.declared.Head.the-variants.{Bad}
+use Rattle.reader.specs.declared.Head.the-variants.{Refused}
 use Rattle.reader.specs.declared.Head.the-variants as head
 use Rattle.cursor.specs.declared.Cursor.{Cursor}
 use Rattle.cursor.specs.declared.Shown.{Shown}
@@ -66,7 +66,7 @@ pub record Ready (s : List ℕ) (c : Cursor) (kind children next : ℕ) : Type 0
 
 -- what `due_at` answers
 abbrev pub DueAt : List ℕ → Cursor → Head → Type 0
-DueAt s c Bad = Idle s c
+DueAt s c (Refused r) = Idle s c
 DueAt s c (head.Node kind children next) = Ready s c kind children next
 
 -- what `standing` answers: a cursor with no refusal, made of these parts

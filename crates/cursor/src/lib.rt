@@ -3,11 +3,13 @@ ghost use Rattle.cursor.specs.At.{Opens, Shows, Goes, DueAt, Made};
 use reader::Count;
 use reader::DEPTH;
 use reader::Head;
-use reader::LEVELS;
+use reader::NO_RECORD;
 use reader::Node;
 
-// The limit of nodes, as the cursor's numbers are held.
+// The limits of a record, as the cursor's numbers are held.
 const NODES: u16 = reader::NODES as u16;
+
+const LEVELS: u16 = reader::DEPTH as u16;
 
 // A refusal number, or where the next node stands, its number, and the depths of the `many` nodes that are due: the next one last.
 pub struct Cursor {
@@ -57,16 +59,16 @@ fn due_at(bytes: &[u8], c: Cursor) -> Head
     let many = c.many;
     let node = c.node;
     if many == 0 {
-        return Head::Bad;
+        return Head::Refused(NO_RECORD);
     }
     if DEPTH < many {
-        return Head::Bad;
+        return Head::Refused(NO_RECORD);
     }
     if NODES <= node.0 {
-        return Head::Bad;
+        return Head::Refused(NO_RECORD);
     }
     if bytes.len() <= at {
-        return Head::Bad;
+        return Head::Refused(NO_RECORD);
     }
     let bodies = reader::BODY;
     let families = reader::CHILDREN;
@@ -78,7 +80,7 @@ pub fn show(bytes: &[u8], c: Cursor) -> Shown
     ensures { λ r. ⌜ Shows (now (bytes .entry)) c r ⌝ }
 {
     match due_at(bytes, c) {
-        Head::Bad => Shown::Nothing,
+        Head::Refused(_) => Shown::Nothing,
         Head::Node {
             kind,
             children: _,
@@ -116,7 +118,7 @@ pub fn next(bytes: &[u8], c: Cursor) -> Cursor
     ensures { λ r. ⌜ Goes (now (bytes .entry)) c r ⌝ }
 {
     match due_at(bytes, c) {
-        Head::Bad => c,
+        Head::Refused(_) => c,
         Head::Node {
             kind: _,
             children,

@@ -5,9 +5,8 @@ use reader::Head;
 use reader::KINDS;
 use reader::NO_RECORD;
 use reader::NODES;
-use reader::OVER_LIMIT;
 use reader::PREFIX;
-use reader::node_at;
+use reader::node_due;
 use shared::both;
 use shared::either;
 ghost use Prim.Native.Nat.{_+_, _<_};
@@ -114,17 +113,8 @@ fn fold(
     requires { ⌜ Tables (now bodies) (now families) ⌝ }
     ensures { λ r. ⌜ Folded (now (s .entry)) at deep left r ⌝ }
 {
-    if s.len() <= at {
-        return Outcome::Refused(NO_RECORD);
-    }
-    if deep == 0 {
-        return Outcome::Refused(OVER_LIMIT);
-    }
-    if left == 0 {
-        return Outcome::Refused(OVER_LIMIT);
-    }
-    match node_at(s, at, bodies, families) {
-        Head::Bad => Outcome::Refused(NO_RECORD),
+    match node_due(s, at, deep, left, bodies, families) {
+        Head::Refused(c) => Outcome::Refused(c),
         Head::Node {
             kind,
             children,

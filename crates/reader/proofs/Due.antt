@@ -11,11 +11,11 @@ use Rattle.format.specs.Read.{Reading, Reading.refused, term, kindOf, keyOf, on
 use Rattle.format.specs.Encode.{Bytes}
 use Rattle.format.proofs.Unique.{read-written}
 use Rattle.operations.specs.Ask.{ReadRecord, unreadable, done}
-use Rattle.reader.specs.Head.{childCount, under, NodeAt, NoNodeAt}
-use Rattle.reader.specs.Walk.{Stops}
+use Rattle.reader.specs.Head.{childCount, under}
+use Rattle.reader.specs.Walk.{Stops, NodeDue}
 use Rattle.reader.specs.Due.{stacked, push, Rest, stop, rest, after, readAll, Fits, Remains}
 use Rattle.reader.proofs.Heads.{by-kind}
-use Rattle.reader.proofs.Laws.{stops-end, stops-deep, stops-left, stops-bad, read-under}
+use Rattle.reader.proofs.Laws.{read-under}
 use Rattle.reader.proofs.Stack.{stacked-length, stacked-top, pushed}
 
 -- after a term with one child, or two, comes what comes after its children
@@ -103,36 +103,22 @@ module _ (s : List ℕ) where
       unfolding readAll
       ahead = sym (ap (λ ds. readAll ds left (drop at s)) (stacked-top many levels m)) ∙ A .same
 
-      refuse : (c : ℕ) → Stops s at (getD levels (many - 1) 0) left c → ReadRecord s c 0
+      pub refuse : (c : ℕ) → Stops s at (getD levels (many - 1) 0) left c → ReadRecord s c 0
       refuse c h = unreadable (all-stops c (sym ahead ∙ rw h))
 
-      pub ends-early : length s ≤ at → ReadRecord s 1 0
-      ends-early h = refuse 1 (stops-end s at _ left h)
+      module _ (kind children next : ℕ) (D : NodeDue s at (getD levels (many - 1) 0) left kind children next) where
+        pub many-inside : many < 257
+        many-inside = omega (arith, split .0, stacked-length (many - 1) levels, D .levels)
 
-      module _ (h : at < length s) where
-        pub too-deep : getD levels (many - 1) 0 ≡ 0 → ReadRecord s 2 0
-        too-deep e = refuse 2 (stops-deep s at _ left h e)
-
-        pub too-many : left ≡ 0 → ReadRecord s 2 0
-        too-many e = refuse 2 (stops-left s at _ left h e)
-
-        module _ (hd : getD levels (many - 1) 0 ≡ 0 → ⊥) (hk : left ≡ 0 → ⊥) where
-          pub no-node : NoNodeAt s at → ReadRecord s 1 0
-          no-node b = refuse 1 (stops-bad s at _ left h hd hk b)
-
-          pub many-inside : many < 257
-          many-inside = omega (arith, split .0, stacked-length (many - 1) levels)
-
-          -- the node gives way to its children, which have a level less
-          pub goes-on : (kind children next v : ℕ) → v ≡ getD levels (many - 1) 0 - 1 → NodeAt s at kind children next
-              → Remains s (set (set levels (many - 1) v) many v) (many - 1 + children) (left - 1) next
-          goes-on kind children next v e H = record {
-            same = rw new (sym (ap (λ r. after r (readAll (stacked (many - 1) levels))) (read-under s at _ left h hd hk kind children next H)
-                ∙ under-all s at _ (left - 1) (drop next s) (stacked (many - 1) levels) kind (H .known)) ∙ ahead);
-            fits = rw new (push-fits (childCount kind) _ (stacked (many - 1) levels) (children-most kind (H .known)) (omega arith) (split .0) (split .1));
-            room = simp length-set (A .room);
-            few = omega (arith, A .few);
-          }
-            where
-              new : stacked (many - 1 + children) (set (set levels (many - 1) v) many v) ≡ push (childCount kind) (getD levels (many - 1) 0 - 1) (stacked (many - 1) levels)
-              new = rw (H .count, e) (pushed many levels _ _ (stacked-top many levels m) _ (omega (arith, A .room, many-inside)) (omega (arith, A .room, many-inside)) (childCount kind) (children-most kind (H .known)))
+        -- the node gives way to its children, which have a level less
+        pub goes-on : (v : ℕ) → v ≡ getD levels (many - 1) 0 - 1 → Remains s (set (set levels (many - 1) v) many v) (many - 1 + children) (left - 1) next
+        goes-on v e = record {
+          same = rw new (sym (ap (λ r. after r (readAll (stacked (many - 1) levels))) (read-under s at _ left kind children next D)
+              ∙ under-all s at _ (left - 1) (drop next s) (stacked (many - 1) levels) kind (D .good .known)) ∙ ahead);
+          fits = rw new (push-fits (childCount kind) _ (stacked (many - 1) levels) (children-most kind (D .good .known)) (omega (arith, D .levels)) (split .0) (split .1));
+          room = simp length-set (A .room);
+          few = omega (arith, A .few);
+        }
+          where
+            new : stacked (many - 1 + children) (set (set levels (many - 1) v) many v) ≡ push (childCount kind) (getD levels (many - 1) 0 - 1) (stacked (many - 1) levels)
+            new = rw (D .good .count, e) (pushed many levels _ _ (stacked-top many levels m) _ (omega (arith, A .room, many-inside)) (omega (arith, A .room, many-inside)) (childCount kind) (children-most kind (D .good .known)))

@@ -9,9 +9,7 @@ use borrow.Author.Tests.{ne-eqb, eq-eqb, le-leb, lt-leb}
 use lib.ListN.{length, drop, getD, length-drop}
 use lib.Seq.{getD-drop, drop-drop, drop-cons}
 use Rattle.format.specs.Read.{Reading, refused, kindOf, node}
-use Rattle.reader.specs.declared.Head.{Head}
-use Rattle.reader.specs.declared.Head.the-variants.{Bad, Node}
-use Rattle.reader.specs.Head.{body, childCount, under, NodeAt, NoNodeAt, Headed}
+use Rattle.reader.specs.Head.{body, childCount, under, NodeAt, NoNodeAt}
 
 -- what holds of the five kinds holds of each number to 4
 pub by-kind : (P : ℕ → Type 0) → P 0 → P 1 → P 2 → P 3 → P 4 → (n : ℕ) → n ≤ 4 → P n
@@ -156,11 +154,3 @@ module _ (s : List ℕ) (at b : ℕ) (e : b ≡ getD s at 0) where
     where
       whole : b ∷ drop (at + 1) s ≡ drop at s
       whole = rw (e, add-one at, ← drop-cons s at 0 hs)
-
--- what the answer of `node_at` says, once its case is known
-module _ (s : List ℕ) (at : ℕ) (h : Head) (H : Headed s at h) where
-  pub headed-bad : h ≡ Bad → NoNodeAt s at
-  headed-bad e = subst (Headed s at) e H
-
-  pub headed : (kind children next : ℕ) → h ≡ Node kind children next → NodeAt s at kind children next
-  headed kind children next e = subst (Headed s at) e H

@@ -8,7 +8,7 @@ pub use Rattle.format.specs.Kinds.{childCount}
 use Rattle.format.specs.Kinds.{bodies, families, bodyLength}
 use Rattle.format.specs.Read.{Reading, refused, term, Kind, nil-kind, prefix-kind, choice-kind, parallel-kind, restriction-kind, no-kind, kindOf, keyOf, node, oneChild, twoChildren}
 use Rattle.reader.specs.declared.Head.{Head}
-use Rattle.reader.specs.declared.Head.the-variants.{Bad, Node}
+use Rattle.reader.specs.declared.Head.the-variants.{Refused, Node}
 
 -- how many bytes a body has, by kind
 abbrev pub body : ℕ → ℕ
@@ -42,5 +42,5 @@ NoNodeAt s at = (r : ℕ → List ℕ → Reading) (k : ℕ) → node (kindOf (g
 
 -- what `node_at` answers
 abbrev pub Headed : List ℕ → ℕ → Head → Type 0
-Headed s at Bad = NoNodeAt s at
+Headed s at (Refused c) = (c ≡ 1) × NoNodeAt s at
 Headed s at (Node kind children next) = NodeAt s at kind children next

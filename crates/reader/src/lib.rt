@@ -4,6 +4,7 @@ ghost use mathlib.Core.Path.{_≡_};
 ghost use lib.ListN.{length};
 ghost use Rattle.operations.specs.Ask.{ReadRecord};
 ghost use Rattle.reader.specs.Head.{body, childCount, Tables, Headed};
+ghost use Rattle.reader.specs.Walk.{Due};
 ghost use Rattle.reader.specs.Count.{refusal, nodes};
 
 // The limits of a record: nodes, and levels.
@@ -11,9 +12,7 @@ pub const NODES: usize = 4096;
 
 pub const DEPTH: usize = 256;
 
-// The same number of levels as a stack of them keeps it, and the length of the reader's stack: a place for each level and one to spare.
-pub const LEVELS: u16 = DEPTH as u16;
-
+// The length of the reader's stack of levels: a place for each level and one to spare.
 const DUE: usize = DEPTH + 1;
 
 // The kinds of a node. The tables below give for each the length of its body and the number of its children.
@@ -50,9 +49,9 @@ pub struct Node(pub u16);
 
 pub struct Name(pub u8);
 
-// What stands at a place: no node, or a node with so many children, whose body ends at `next`.
+// What stands at a place: a refusal, or a node with so many children, whose body ends at `next`.
 pub enum Head {
-    Bad,
+    Refused(u8),
     Node {
         kind: usize,
         children: usize,
@@ -96,24 +95,24 @@ pub fn node_at(s: &[u8], at: usize, bodies: &[usize; KINDS], families: &[usize; 
 {
     let kind = wide(s[at]);
     if RESTRICTION < kind {
-        return Head::Bad;
+        return Head::Refused(NO_RECORD);
     }
     let body = bodies[kind];
     let from = at + 1;
     if s.len() - from < body {
-        return Head::Bad;
+        return Head::Refused(NO_RECORD);
     }
     if kind == PREFIX {
         if s[from] == NO_ACTION {
-            return Head::Bad;
+            return Head::Refused(NO_RECORD);
         }
     }
     if kind == RESTRICTION {
         if s[from] == 0 {
-            return Head::Bad;
+            return Head::Refused(NO_RECORD);
         }
         if LAST_NAME < s[from] {
-            return Head::Bad;
+            return Head::Refused(NO_RECORD);
         }
     }
     Head::Node {
@@ -123,6 +122,30 @@ pub fn node_at(s: &[u8], at: usize, bodies: &[usize; KINDS], families: &[usize; 
     }
 }
 
+// The node that is due at `at`, where at most `deep` levels and `left` nodes may come: bytes ended, then the limits, then the node itself.
+pub fn node_due(
+    s: &[u8],
+    at: usize,
+    deep: usize,
+    left: usize,
+    bodies: &[usize; KINDS],
+    families: &[usize; KINDS],
+) -> Head
+    requires { ⌜ Tables (now bodies) (now families) ⌝ }
+    ensures { λ r. ⌜ Due (now (s .entry)) at deep left r ⌝ }
+{
+    if s.len() <= at {
+        return Head::Refused(NO_RECORD);
+    }
+    if deep == 0 {
+        return Head::Refused(OVER_LIMIT);
+    }
+    if left == 0 {
+        return Head::Refused(OVER_LIMIT);
+    }
+    node_at(s, at, bodies, families)
+}
+
 // The number of nodes of the record that the bytes are, or the refusal. `due` is a stack: how many levels each of the `many` terms
 // that are due may have, the next term's last. A node's children take its place there, with a level less.
 pub fn read(bytes: &[u8]) -> Count
@@ -130,25 +153,16 @@ pub fn read(bytes: &[u8]) -> Count
 {
     let bodies = BODY;
     let families = CHILDREN;
-    let mut due = [LEVELS; DUE];
+    let mut due = [DEPTH; DUE];
     let mut many: usize = 1;
     let mut left = NODES;
     let mut at: usize = 0;
     while 0 < many {
-        if bytes.len() <= at {
-            return Count::Refused(NO_RECORD);
-        }
         let top = many - 1;
         let levels = due[top];
-        if levels == 0 {
-            return Count::Refused(OVER_LIMIT);
-        }
-        if left == 0 {
-            return Count::Refused(OVER_LIMIT);
-        }
-        match node_at(bytes, at, &bodies, &families) {
-            Head::Bad => {
-                return Count::Refused(NO_RECORD);
+        match node_due(bytes, at, levels, left, &bodies, &families) {
+            Head::Refused(c) => {
+                return Count::Refused(c);
             }
             Head::Node {
                 kind: _,

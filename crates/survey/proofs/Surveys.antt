@@ -14,10 +14,8 @@ use Rattle.format.specs.Read.{Reads, Refuses}
 use Rattle.reader.proofs.Whole.{refuses-stopped, refuses-trailing, reads-whole}
 use Rattle.format.specs.Encode.{encode}
 use Rattle.moves.specs.Choose.{spots}
-use Rattle.reader.specs.declared.Head.{Head}
-use Rattle.reader.specs.declared.Head.the-variants as head
-use Rattle.reader.specs.Head.{NodeAt, NoNodeAt, Headed, body, childCount}
-use Rattle.reader.specs.Walk.{Stops, Walks}
+use Rattle.reader.specs.Head.{body, childCount}
+use Rattle.reader.specs.Walk.{Stops, Walks, NodeDue}
 use Rattle.reader.proofs.Heads.{by-kind}
 use Rattle.reader.proofs.Laws.{walks-nil, walks-prefix, walks-restriction, walks-choice, walks-parallel, no-children, one-child, two-children, stops-first, stops-second}
 use Rattle.survey.specs.declared.seen.Ask.{Ask}
@@ -50,14 +48,6 @@ encode-short (cho t u) = rw length-append (omega (arith, encode-short t, encode-
 encode-short (par t u) = rw length-append (omega (arith, encode-short t, encode-short u))
 encode-short (res a t) = omega (arith, encode-short t)
 
--- the answer of `node_at`, once its case is known
-module _ (s : List ℕ) (at : ℕ) (h : Head) (H : Headed s at h) where
-  pub node-unknown : h ≡ head.Bad → NoNodeAt s at
-  node-unknown e = subst (Headed s at) e H
-
-  pub node-known : (kind children next : ℕ) → h ≡ head.Node kind children next → NodeAt s at kind children next
-  node-known kind children next e = subst (Headed s at) e H
-
 -- the outcome of a pass, once its case is known
 module _ (s : List ℕ) (at d k : ℕ) (ask : Ask) (r : Outcome) (w : Surveyed s at d k ask r) where
   pub surveyed-refused : (c : ℕ) → r ≡ found.Refused c → Stops s at d k c
@@ -78,23 +68,23 @@ module _ (s : List ℕ) (at d k : ℕ) (ask : Ask) (r : Outcome) (w : Surveyed s
     pub near : at + 4 * k ≤ 4 * node-limit → next + 4 * l ≤ 4 * node-limit
     near h = let p = surveyed-part in omega (arith, p .1 .ends, p .1 .nodes, encode-short (p .0))
 
-module _ (s : List ℕ) (at d k : ℕ) (hs : at < length s) (hd : d ≡ 0 → ⊥) (hk : k ≡ 0 → ⊥) (kind children next : ℕ) (H : NodeAt s at kind children next) (ask : Ask) (lim : k ≤ node-limit) where
+module _ (s : List ℕ) (at d k : ℕ) (kind children next : ℕ) (D : NodeDue s at d k kind children next) (ask : Ask) (lim : k ≤ node-limit) where
   pub surveyed-nil : children ≡ 0 → (r : Seen) → ((ask : Ask) (i n : ℕ) → Found ask i n nil r) → Surveyed s at d k ask (found.Part next (k - 1) r)
-  surveyed-nil q r f = (nil, walks-nil s at d k hs hd hk kind children next H (no-children s at d k hs hd hk kind children next H q), f ask at (node-limit - k))
+  surveyed-nil q r f = (nil, walks-nil s at d k kind children next D (no-children s at d k kind children next D q), f ask at (node-limit - k))
 
   ends : (n : ℕ) → kind ≡ n → next ≡ at + 1 + body n
-  ends n q = subst (λ (m : ℕ). next ≡ at + 1 + body m) q (H .ends)
+  ends n q = subst (λ (m : ℕ). next ≡ at + 1 + body m) q (D .good .ends)
 
   -- a body has at most three bytes
   pub next-near : next ≤ at + 4
-  next-near = omega (arith, H .ends, by-kind (λ m. body m ≤ 3) (omega arith) (omega arith) (omega arith) (omega arith) (omega arith) kind (H .known))
+  next-near = omega (arith, D .good .ends, by-kind (λ m. body m ≤ 3) (omega arith) (omega arith) (omega arith) (omega arith) (omega arith) kind (D .good .known))
 
   -- the body stands in the record
   pub body-within : children ≡ 1 → at + 1 < length s
-  body-within q = ⊎-elim (λ z. omega (arith, ends 1 z, H .within)) (λ z. omega (arith, ends 4 z, H .within)) (one-child s at d k hs hd hk kind children next H q)
+  body-within q = ⊎-elim (λ z. omega (arith, ends 1 z, D .good .within)) (λ z. omega (arith, ends 4 z, D .good .within)) (one-child s at d k kind children next D q)
 
   pub prefix-within : kind ≡ 1 → at + 3 < length s
-  prefix-within q = omega (arith, ends 1 q, H .within)
+  prefix-within q = omega (arith, ends 1 q, D .good .within)
 
   -- the findings of a child, at the place and the node number that the parent gives it
   moved-to : (i j n m : ℕ) (t : Term) (x : Seen) → i ≡ j → n ≡ m → Found ask i n t x → Found ask j m t x
@@ -102,33 +92,33 @@ module _ (s : List ℕ) (at d k : ℕ) (hs : at < length s) (hd : d ≡ 0 → �
 
   module _ (r : Outcome) (w : Surveyed s next (d - 1) (k - 1) ask r) where
     pub surveyed-stop : (children ≡ 0 → ⊥) → (c : ℕ) → r ≡ found.Refused c → Stops s at d k c
-    surveyed-stop a c e = stops-first s at d k hs hd hk kind children next H c (λ z. a (no-kids z)) (surveyed-refused s next (d - 1) (k - 1) ask r w c e)
+    surveyed-stop a c e = stops-first s at d k kind children next D c (λ z. a (no-kids z)) (surveyed-refused s next (d - 1) (k - 1) ask r w c e)
       where
         no-kids : kind ≡ 0 → children ≡ 0
-        no-kids z = H .count ∙ subst (λ (m : ℕ). childCount m ≡ childCount 0) (sym z) refl
+        no-kids z = D .good .count ∙ subst (λ (m : ℕ). childCount m ≡ childCount 0) (sym z) refl
 
     module _ (n l : ℕ) (below : Seen) (e : r ≡ found.Part n l below) where
       first : (t : Term) × Walks s next (d - 1) (k - 1) t n l × Found ask next (node-limit - (k - 1)) t below
       first = surveyed-part s next (d - 1) (k - 1) ask r w n l below e
 
       pub surveyed-one : children ≡ 1 → (x : Seen) → OverOne s at kind (node-limit - k) ask below x → Surveyed s at d k ask (found.Part n l x)
-      surveyed-one q x o = ⊎-elim prefix restriction (one-child s at d k hs hd hk kind children next H q)
+      surveyed-one q x o = ⊎-elim prefix restriction (one-child s at d k kind children next D q)
         where
           t : Term
           t = first .0
 
           prefix : kind ≡ 1 → Surveyed s at d k ask (found.Part n l x)
-          prefix z = (_, walks-prefix s at d k hs hd hk kind children next H t n l (first .1) z, o .prefix z t (moved-to next (at + 4) _ _ t below (omega (arith, ends 1 z)) (omega arith) (first .2)))
+          prefix z = (_, walks-prefix s at d k kind children next D t n l (first .1) z, o .prefix z t (moved-to next (at + 4) _ _ t below (omega (arith, ends 1 z)) (omega arith) (first .2)))
 
           restriction : kind ≡ 4 → Surveyed s at d k ask (found.Part n l x)
-          restriction z = (_, walks-restriction s at d k hs hd hk kind children next H t n l (first .1) z, o .restriction (λ y. omega arith) t (moved-to next (at + 2) _ _ t below (omega (arith, ends 4 z)) (omega arith) (first .2)))
+          restriction z = (_, walks-restriction s at d k kind children next D t n l (first .1) z, o .restriction (λ y. omega arith) t (moved-to next (at + 2) _ _ t below (omega (arith, ends 4 z)) (omega arith) (first .2)))
 
       module _ (a : children ≡ 0 → ⊥) (b : children ≡ 1 → ⊥) (r₂ : Outcome) (w₂ : Surveyed s n (d - 1) l ask r₂) where
         sides : (kind ≡ 2) ⊎ (kind ≡ 3)
-        sides = two-children s at d k hs hd hk kind children next H a b
+        sides = two-children s at d k kind children next D a b
 
         pub surveyed-second-stop : (c : ℕ) → r₂ ≡ found.Refused c → Stops s at d k c
-        surveyed-second-stop c q = stops-second s at d k hs hd hk kind children next H (first .0) n l (first .1) c sides (surveyed-refused s n (d - 1) l ask r₂ w₂ c q)
+        surveyed-second-stop c q = stops-second s at d k kind children next D (first .0) n l (first .1) c sides (surveyed-refused s n (d - 1) l ask r₂ w₂ c q)
 
         pub surveyed-two : (n′ l′ : ℕ) (other : Seen) → r₂ ≡ found.Part n′ l′ other → (x : Seen) → OverTwo (eqb kind 3) below other x → Surveyed s at d k ask (found.Part n′ l′ x)
         surveyed-two n′ l′ other e₂ x f = ⊎-elim choice parallel sides
@@ -151,14 +141,14 @@ module _ (s : List ℕ) (at d k : ℕ) (hs : at < length s) (hd : d ≡ 0 → �
             choice : kind ≡ 2 → Surveyed s at d k ask (found.Part n′ l′ x)
             choice z = (
               cho t u,
-              walks-choice s at d k hs hd hk kind children next H t n l (first .1) u n′ l′ (second .1) z,
+              walks-choice s at d k kind children next D t n l (first .1) u n′ l′ (second .1) z,
               subst (λ (p : Bool). Found ask at (node-limit - k) (two p t u) x) (ne-eqb kind 3 (λ y. omega arith)) (both 2 z refl),
             )
 
             parallel : kind ≡ 3 → Surveyed s at d k ask (found.Part n′ l′ x)
             parallel z = (
               par t u,
-              walks-parallel s at d k hs hd hk kind children next H t n l (first .1) u n′ l′ (second .1) z,
+              walks-parallel s at d k kind children next D t n l (first .1) u n′ l′ (second .1) z,
               subst (λ (p : Bool). Found ask at (node-limit - k) (two p t u) x) (eq-eqb kind 3 z) (both 3 z refl),
             )
 

@@ -10,10 +10,9 @@ use reader::Head;
 use reader::KINDS;
 use reader::NO_RECORD;
 use reader::NODES;
-use reader::OVER_LIMIT;
 use reader::PARALLEL;
 use reader::PREFIX;
-use reader::node_at;
+use reader::node_due;
 use shared::key_of;
 use shared::narrow;
 use shared::wide;
@@ -62,17 +61,8 @@ fn survey(
     requires { ⌜ (left ≤ node-limit) × (at + 4 * left ≤ 4 * node-limit) × Tables (now bodies) (now families) ⌝ }
     ensures { λ r. ⌜ Surveyed (now (s .entry)) at deep left ask r ⌝ }
 {
-    if s.len() <= at {
-        return Outcome::Refused(NO_RECORD);
-    }
-    if deep == 0 {
-        return Outcome::Refused(OVER_LIMIT);
-    }
-    if left == 0 {
-        return Outcome::Refused(OVER_LIMIT);
-    }
-    match node_at(s, at, bodies, families) {
-        Head::Bad => Outcome::Refused(NO_RECORD),
+    match node_due(s, at, deep, left, bodies, families) {
+        Head::Refused(c) => Outcome::Refused(c),
         Head::Node {
             kind,
             children,

@@ -9,8 +9,8 @@ use borrow.Author.Tests.{ne-eqb}
 use lib.ListN.{length}
 use Rattle.ccsk.specs.Term.{Term, nil, cho, par, size, done}
 use Rattle.format.specs.Limits.{node-limit}
-use Rattle.reader.specs.Head.{NodeAt, body, childCount}
-use Rattle.reader.specs.Walk.{Stops, Walks}
+use Rattle.reader.specs.Head.{body, childCount}
+use Rattle.reader.specs.Walk.{Stops, Walks, NodeDue}
 use Rattle.reader.proofs.Laws.{walks-nil, walks-prefix, walks-restriction, walks-choice, walks-parallel, no-children, one-child, two-children, stops-first, stops-second}
 use Rattle.lasts.specs.Last.{Last, Scopes}
 use Rattle.undos.specs.declared.gather.Entered.{Entered}
@@ -42,26 +42,26 @@ module _ (s : List ℕ) (at d c k l : ℕ) (b b′ : Lent) (W : Type 0) (r : Out
     pub room-left : k + c ≤ node-limit → l ≤ k → (k′ + c′ ≤ node-limit) × (l′ ≤ k′) × (k ≤ k′)
     room-left h i = let p = gathers-part in omega (arith, p .1 .nodes, p .2 .key-count, p .2 .last-count, keys-few (p .0), lasts-few (node-limit - c) (b .scopes) (p .0))
 
-module _ (s : List ℕ) (at d c : ℕ) (hs : at < length s) (hd : d ≡ 0 → ⊥) (hc : c ≡ 0 → ⊥) (kind children next : ℕ) (H : NodeAt s at kind children next) where
+module _ (s : List ℕ) (at d c : ℕ) (kind children next : ℕ) (D : NodeDue s at d c kind children next) where
   ends : (n : ℕ) → kind ≡ n → next ≡ at + 1 + body n
-  ends n q = subst (λ (m : ℕ). next ≡ at + 1 + body m) q (H .ends)
+  ends n q = subst (λ (m : ℕ). next ≡ at + 1 + body m) q (D .good .ends)
 
   -- the body stands in the record
   pub prefix-within : kind ≡ 1 → at + 3 < length s
-  prefix-within q = omega (arith, ends 1 q, H .within)
+  prefix-within q = omega (arith, ends 1 q, D .good .within)
 
   pub name-within : kind ≡ 4 → at + 1 < length s
-  name-within q = omega (arith, ends 4 q, H .within)
+  name-within q = omega (arith, ends 4 q, D .good .within)
 
   pub restriction : children ≡ 1 → kind ≢ 1 → kind ≡ 4
-  restriction q z = ⊎-elim (λ p. absurd (z p)) (λ p. p) (one-child s at d c hs hd hc kind children next H q)
+  restriction q z = ⊎-elim (λ p. absurd (z p)) (λ p. p) (one-child s at d c kind children next D q)
 
   no-kids : kind ≡ 0 → children ≡ 0
-  no-kids z = H .count ∙ subst (λ (m : ℕ). childCount m ≡ childCount 0) (sym z) refl
+  no-kids z = D .good .count ∙ subst (λ (m : ℕ). childCount m ≡ childCount 0) (sym z) refl
 
   module _ (k l : ℕ) (lim : k + c ≤ node-limit) where
     pub gathers-nil : (b : Lent) (W : Type 0) → W → children ≡ 0 → Gathers s at d c k l b (found.Part next (c - 1) k l) b W
-    gathers-nil b W z q = (nil, walks-nil s at d c hs hd hc kind children next H (no-children s at d c hs hd hc kind children next H q), noted-nil (node-limit - c) k l b, z)
+    gathers-nil b W z q = (nil, walks-nil s at d c kind children next D (no-children s at d c kind children next D q), noted-nil (node-limit - c) k l b, z)
 
     -- one key more at most
     pub entered : (n : ℕ) (all all′ : List ℕ) (sc sc′ : Scopes) (r : Entered) → Enters s at kind n k all all′ sc sc′ r → (k ≤ r .keys) × (r .keys + (c - 1) ≤ node-limit)
@@ -78,7 +78,7 @@ module _ (s : List ℕ) (at d c : ℕ) (hs : at < length s) (hd : d ≡ 0 → �
     module _ (sc sc₁ : Scopes) (all all₁ : List ℕ) (rs : List Last) (en : Entered) (E : Enters s at kind (node-limit - c) k all all₁ sc sc₁ en)
         (b₂ : Lent) (W : Type 0) (r : Outcome) (w : Gathers s next (d - 1) (c - 1) (en .keys) l (arrays sc₁ all₁ rs) r b₂ W) where
       pub gathers-stop : (children ≡ 0 → ⊥) → (e : ℕ) → r ≡ found.Refused e → Stops s at d c e
-      gathers-stop a e q = stops-first s at d c hs hd hc kind children next H e (λ z. a (no-kids z)) (gathers-refused s next (d - 1) (c - 1) (en .keys) l (arrays sc₁ all₁ rs) b₂ W r w e q)
+      gathers-stop a e q = stops-first s at d c kind children next D e (λ z. a (no-kids z)) (gathers-refused s next (d - 1) (c - 1) (en .keys) l (arrays sc₁ all₁ rs) b₂ W r w e q)
 
       module _ (n c₁ k₁ l₁ : ℕ) (q : r ≡ found.Part n c₁ k₁ l₁) (h : l ≤ length rs) where
         first : (t : Term) × Walks s next (d - 1) (c - 1) t n c₁ × Noted (node-limit - (c - 1)) t (en .keys) l (arrays sc₁ all₁ rs) k₁ l₁ b₂ × W
@@ -100,7 +100,7 @@ module _ (s : List ℕ) (at d c : ℕ) (hs : at < length s) (hd : d ≡ 0 → �
         unfolding t
         gathers-prefix z l₂ rs₃ O Z v = (
           _,
-          walks-prefix s at d c hs hd hc kind children next H t n c₁ (first .1) z,
+          walks-prefix s at d c kind children next D t n c₁ (first .1) z,
           noted-prefix s at kind (node-limit - c) k l sc all rs h all₁ en t sc₁ (b₂ .scopes) (b₂ .all) (b₂ .rows) rs₃ k₁ l₁ l₂ z E below O,
           v,
         )
@@ -110,18 +110,18 @@ module _ (s : List ℕ) (at d c : ℕ) (hs : at < length s) (hd : d ≡ 0 → �
         unfolding t
         gathers-restriction z sc₃ e Z v = (
           _,
-          walks-restriction s at d c hs hd hc kind children next H t n c₁ (first .1) z,
+          walks-restriction s at d c kind children next D t n c₁ (first .1) z,
           noted-restriction s at kind (node-limit - c) k l sc all rs h all₁ en t sc₁ (b₂ .scopes) sc₃ (b₂ .all) (b₂ .rows) k₁ l₁ z E below e,
           v,
         )
 
         module _ (a : children ≡ 0 → ⊥) (a′ : children ≡ 1 → ⊥) (b₃ : Lent) (Z : Type 0) (r₂ : Outcome) (w₂ : Gathers s n (d - 1) c₁ k₁ l₁ b₂ r₂ b₃ Z) where
           sides : (kind ≡ 2) ⊎ (kind ≡ 3)
-          sides = two-children s at d c hs hd hc kind children next H a a′
+          sides = two-children s at d c kind children next D a a′
 
           pub gathers-second-stop : (e : ℕ) → r₂ ≡ found.Refused e → Stops s at d c e
           unfolding t
-          gathers-second-stop e p = stops-second s at d c hs hd hc kind children next H t n c₁ (first .1) e sides (gathers-refused s n (d - 1) c₁ k₁ l₁ b₂ b₃ Z r₂ w₂ e p)
+          gathers-second-stop e p = stops-second s at d c kind children next D t n c₁ (first .1) e sides (gathers-refused s n (d - 1) c₁ k₁ l₁ b₂ b₃ Z r₂ w₂ e p)
 
           -- nothing was noted before the sides
           plain : Noted (node-limit - c + 1) t k l (arrays sc all rs) k₁ l₁ b₂
@@ -145,7 +145,7 @@ module _ (s : List ℕ) (at d c : ℕ) (hs : at < length s) (hd : d ≡ 0 → �
               choice : kind ≡ 2 → Gathers s at d c k l (arrays sc all rs) (found.Part n₂ c₂ k₂ l₃) b₃ Z
               choice z = (
                 cho t u,
-                walks-choice s at d c hs hd hc kind children next H t n c₁ (first .1) u n₂ c₂ (second .1) z,
+                walks-choice s at d c kind children next D t n c₁ (first .1) u n₂ c₂ (second .1) z,
                 noted-choice (node-limit - c) k l k₁ l₁ k₂ l₂ t u (arrays sc all rs) b₂ b₃ h plain beside kind l₃ z e,
                 second .3,
               )
@@ -153,7 +153,7 @@ module _ (s : List ℕ) (at d c : ℕ) (hs : at < length s) (hd : d ≡ 0 → �
               parallel : kind ≡ 3 → Gathers s at d c k l (arrays sc all rs) (found.Part n₂ c₂ k₂ l₃) b₃ Z
               parallel z = let f : l₃ ≡ l₂ = rw (ne-eqb kind 2 (λ y. omega arith)) at e in (
                 par t u,
-                walks-parallel s at d c hs hd hc kind children next H t n c₁ (first .1) u n₂ c₂ (second .1) z,
+                walks-parallel s at d c kind children next D t n c₁ (first .1) u n₂ c₂ (second .1) z,
                 rw f (noted-parallel (node-limit - c) k l k₁ l₁ k₂ l₂ t u (arrays sc all rs) b₂ b₃ h plain beside),
                 second .3,
               )

@@ -2,12 +2,10 @@
 use reader::CHOICE;
 use reader::Head;
 use reader::KINDS;
-use reader::NO_RECORD;
 use reader::NODES;
-use reader::OVER_LIMIT;
 use reader::PREFIX;
 use reader::RESTRICTION;
-use reader::node_at;
+use reader::node_due;
 use reader::wide;
 use shared::NAMES;
 use shared::key_of;
@@ -149,17 +147,8 @@ pub fn gather(
     requires { ⌜ Sized (now scopes) (now all) (now key) (now action) (now scope) ⌝ }
     ensures { λ r. ⌜ Gathers (now (s .entry)) at deep left keys lasts (lent (now (scopes .entry)) (now (all .entry)) (now (key .entry)) (now (action .entry)) (now (scope .entry))) r (lent (now (scopes .exit)) (now (all .exit)) (now (key .exit)) (now (action .exit)) (now (scope .exit))) (Sized (now (scopes .exit)) (now (all .exit)) (now (key .exit)) (now (action .exit)) (now (scope .exit))) ⌝ }
 {
-    if s.len() <= at {
-        return Outcome::Refused(NO_RECORD);
-    }
-    if deep == 0 {
-        return Outcome::Refused(OVER_LIMIT);
-    }
-    if left == 0 {
-        return Outcome::Refused(OVER_LIMIT);
-    }
-    match node_at(s, at, bodies, families) {
-        Head::Bad => Outcome::Refused(NO_RECORD),
+    match node_due(s, at, deep, left, bodies, families) {
+        Head::Refused(c) => Outcome::Refused(c),
         Head::Node {
             kind,
             children,

@@ -69,7 +69,7 @@ standing-requires-3 : tie.Need-standing-requires-3
 standing-requires-3 c κs = search needs
 
 returns-5 : tie.Need-returns-5
-returns-5 c = let a = c .before .before .before .before .args in goes-idle (a .bytes .now) (a .c) (due-idle (a .bytes .now) (a .c) (c .before .before .due-at .result) (c .before .before .due-at .ensures) (c .enum-told .given .1))
+returns-5 c = let a = c .before .before .before .before .args in goes-idle (a .bytes .now) (a .c) (due-idle (a .bytes .now) (a .c) (c .before .before .due-at .result) (c .before .before .due-at .ensures) _ (c .enum-told .given .1))
 
 returns-6 : tie.Need-returns-6
 returns-6 c = let a = c .before .before .before .before .before .before .before .before .before .before .before .before .before .args in moves-two (a .bytes .now) (a .c) _ _ _ (due-ready (a .bytes .now) (a .c) (c .before .before .before .before .before .before .before .before .before .before .before .due-at .result) (c .before .before .before .before .before .before .before .before .before .before .before .due-at .ensures) _ _ _ (c .before .before .before .before .before .before .before .before .before .children .given .1)) (c .standing3 .result) (c .before .before .before .before .if1 .left) (c .before .before .if3 .left) (c .standing3 .ensures)

@@ -30,7 +30,7 @@ array-read-t15 : tie.Need-array-read-t15
 array-read-t15 c = let a = c .before .before .before .before .before .before .before .args in let R = due-ready (a .bytes .now) (a .c) (c .before .before .before .before .before .due-at .result) (c .before .before .before .before .before .due-at .ensures) _ _ _ (c .before .before .before .kind .given .1) in omega (arith, R .some, R .few)
 
 returns : tie.Need-returns
-returns c = let a = c .before .before .before .before .args in shows-idle (a .bytes .now) (a .c) (due-idle (a .bytes .now) (a .c) (c .before .before .due-at .result) (c .before .before .due-at .ensures) (c .enum-told .given .1))
+returns c = let a = c .before .before .before .before .args in shows-idle (a .bytes .now) (a .c) (due-idle (a .bytes .now) (a .c) (c .before .before .due-at .result) (c .before .before .due-at .ensures) _ (c .enum-told .given .1))
 
 returns-2 : tie.Need-returns-2
 returns-2 c = let a = c .before .before .before .before .before .before .before .args in shows-node (a .bytes .now) (a .c) _ _ _ (due-ready (a .bytes .now) (a .c) (c .before .before .before .before .before .due-at .result) (c .before .before .before .before .before .due-at .ensures) _ _ _ (c .before .before .before .kind .given .1))
