@@ -5,20 +5,21 @@ use crate::out::put;
 use crate::out::put_number;
 use index::index;
 use keys::Number;
+use labels::undo_labels;
 use links::link;
 use reader::Count;
-use reader::Key;
 use reader::NO_ACTION;
 use reader::NODES;
 use reader::Node;
 use search::First;
 use search::next_step;
 use search::settle;
-use steps::Moved;
 use undos::listing::Rows;
+use undos::listing::undo_listing;
 ghost use mathlib.Core.Path.{_≡_};
 ghost use Prim.Native.Nat.{_≤_};
 ghost use lib.ListN.{length};
+ghost use Rattle.format.specs.Limits.{node-limit};
 ghost use Rattle.index.specs.Whole.{SomeRows};
 ghost use Rattle.search.specs.Scan.{Settled};
 
@@ -97,51 +98,45 @@ fn put_steps(
     at
 }
 
-// The line of one undo, if it is allowed.
-fn put_undo(space: &mut [u8], n: usize, bytes: &[u8], key: u16) -> usize
+// The line of one undo.
+fn put_undo(space: &mut [u8], n: usize, key: u16, label: u8) -> usize
     requires { ⌜ (n ≤ 4096) × (length (now space) ≡ 4096) ⌝ }
     ensures { λ r. ⌜ (r ≤ 4096) × (length (now (space .exit)) ≡ 4096) ⌝ }
 {
-    match steps::tell_undo(bytes, Key(key)) {
-        Moved::Refused(_) => n,
-        Moved::Done(l) => {
-            let a = put(space, n, b"undo ");
-            let b = put_number(space, a, key as u64);
-            let c = put(space, b, b" ");
-            let d = put_number(space, c, l as u64);
-            put(space, d, b"\n")
-        }
-    }
+    let a = put(space, n, b"undo ");
+    let b = put_number(space, a, key as u64);
+    let c = put(space, b, b" ");
+    let d = put_number(space, c, label as u64);
+    put(space, d, b"\n")
 }
 
-// A line for each key of the row, the first `count` of which are listed.
-fn put_undos(space: &mut [u8], n: usize, bytes: &[u8], row: &[u16], count: usize) -> usize
-    requires { ⌜ (n ≤ 4096) × (length (now space) ≡ 4096) × (count ≤ length (now row)) ⌝ }
+// A line for each of the first `count` keys of the row, with its label.
+fn put_undos(space: &mut [u8], n: usize, row: &[u16], labels: &[u8; NODES], count: usize) -> usize
+    requires { ⌜ (n ≤ 4096) × (length (now space) ≡ 4096) × (count ≤ length (now row)) × (count ≤ node-limit) ⌝ }
     ensures { λ r. ⌜ (r ≤ 4096) × (length (now (space .exit)) ≡ 4096) ⌝ }
 {
     let mut at = n;
     let mut i: usize = 0;
     while i < count {
-        at = put_undo(space, at, bytes, row[i]);
+        at = put_undo(space, at, row[i], labels[i]);
         i += 1;
     }
     at
 }
 
-// The row of the keys whose undo is allowed, as lines.
+// The row of the keys whose undo is allowed, as lines. Their labels are gathered in one pass.
 fn put_allowed(space: &mut [u8], n: usize, bytes: &[u8]) -> usize
     requires { ⌜ (n ≤ 4096) × (length (now space) ≡ 4096) ⌝ }
     ensures { λ r. ⌜ (r ≤ 4096) × (length (now (space .exit)) ≡ 4096) ⌝ }
 {
     let mut keys = [0u16; NODES];
     let row: &mut [u16] = &mut keys;
-    match undos::listing::undo_listing(bytes, row) {
+    match undo_listing(bytes, row) {
         Rows::Refused(_) => n,
         Rows::Listed(count) => {
-            if row.len() < count {
-                return n;
-            }
-            put_undos(space, n, bytes, row, count)
+            let mut labels = [NO_ACTION; NODES];
+            undo_labels(bytes, row, count, &mut labels);
+            put_undos(space, n, row, &labels, count)
         }
     }
 }

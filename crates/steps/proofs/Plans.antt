@@ -26,7 +26,7 @@ use Rattle.survey.specs.declared.pass.Whole.{Whole}
 use Rattle.survey.specs.declared.pass.Whole.the-variants as whole
 use Rattle.survey.specs.Seen.{Found, moveOf}
 use Rattle.survey.specs.Survey.{Looked}
-use Rattle.steps.specs.Plan.{planned, told, carried, Inside, place, settled, WouldUndo}
+use Rattle.steps.specs.Plan.{planned, told, carried, Inside, place, settled}
 
 -- what the pass over the whole record found, once its case is known
 module _ (s : List ℕ) (ask : Ask) (r : Whole) (w : Looked s ask r) where
@@ -150,7 +150,3 @@ inside-one n r l i e h = subst (Inside n) e h
 
 pub inside-two : (n : ℕ) (r : Plan) (l i j : ℕ) → r ≡ Two l i j → Inside n r → (i + 3 < n) × (j + 3 < n)
 inside-two n r l i j e h = subst (Inside n) e h
-
--- a plan of an undo tells what the undo would answer
-pub would-undo : (s : List ℕ) (m : ℕ) (r x : Plan) → r ≡ x → UndoPlan s m r → WouldUndo s m (planned x) (told x)
-would-undo s m r x e h = rw (← e) (carried 0 r s, h .1)

@@ -4,7 +4,6 @@ use mathlib.Core.Bool.{Bool, true, false}
 use Prim.Native.Nat.{ℕ, _+_, _<_, _/_, _%_}
 use lib.ListN.{set}
 use Rattle.ccsk.specs.Term.{Key, Label}
-use Rattle.operations.specs.Change.{UndoStep}
 use Rattle.survey.specs.declared.seen.Move.{Move}
 use Rattle.survey.specs.declared.seen.Move.the-variants.{Still, Step, Stuck}
 use Rattle.steps.specs.declared.Moved.{Moved}
@@ -59,7 +58,3 @@ settled true two i j x = Refused 5
 settled false two i j (Step l) = place two l i j
 settled false two i j Still = Refused 6
 settled false two i j Stuck = Refused 6
-
--- the refusal number and the label of an undo, whatever it leaves of the record
-abbrev pub WouldUndo : List ℕ → Key → ℕ → Label → Type 0
-WouldUndo s m c l = (b : List ℕ) × UndoStep s m c l b

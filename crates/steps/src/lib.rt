@@ -12,7 +12,7 @@ ghost use mathlib.Core.Path.{_≡_};
 ghost use Prim.Native.Nat.{_+_, _<_, _/_, _%_};
 ghost use lib.ListN.{length, set};
 ghost use Rattle.operations.specs.Change.{ForwardStep, UndoStep};
-ghost use Rattle.steps.specs.Plan.{refusal, label, planned, told, carried, Inside, settled, WouldUndo};
+ghost use Rattle.steps.specs.Plan.{refusal, label, planned, told, carried, Inside, settled};
 
 // Refusals (01, Operations and their refusals): the key is 0; p and q are no places; the key stands in the record; no such step;
 // the key stands nowhere; no such undo.
@@ -158,17 +158,6 @@ fn plan_undo(s: &[u8], key: u16) -> Plan
                 Move::Stuck => Plan::Refused(NO_UNDO),
             }
         }
-    }
-}
-
-// What the undo of the key would answer, with nothing written.
-pub fn tell_undo(s: &[u8], key: Key) -> Moved
-    ensures { λ r. ⌜ WouldUndo (now (s .entry)) (key .0) (refusal r) (label r) ⌝ }
-{
-    match plan_undo(s, key.0) {
-        Plan::Refused(c) => Moved::Refused(c),
-        Plan::One(l, _) => Moved::Done(l),
-        Plan::Two(l, _, _) => Moved::Done(l),
     }
 }
 

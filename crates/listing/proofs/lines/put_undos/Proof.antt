@@ -1,16 +1,17 @@
 -- `put_undos` is safe and ends: what is gathered stays within the buffer.
 use borrow.Author.Needs.{needs}
-use mathlib.Core.Path.{_≡_, sym, _∙_}
+use mathlib.Core.Path.{_≡_}
 use Prim.Native.Nat.{_≤_, _-_}
 use lib.ListN.{length}
 use Rattle.listing.proofs.lines.put_undos.Statement.{statement}
 use Rattle.listing.proofs.lines.put_undos.Tie as tie
+use Rattle.listing.proofs.lines.put_undo.Reads as put-undo-reads
 
 abbrev Inv-loop : tie.InvT-loop
-Inv-loop space₀ n bytes row count at₀ i₀ space at i = (at ≤ 4096) × (length space ≡ 4096) × (i ≤ count)
+Inv-loop space₀ n row labels count at₀ i₀ space at i = (at ≤ 4096) × (length space ≡ 4096) × (i ≤ count)
 
 abbrev μ-loop : tie.MeasureT-loop
-μ-loop space₀ n bytes row count at₀ i₀ space at i = count - i
+μ-loop space₀ n row labels count at₀ i₀ space at i = count - i
 
 loop-holds : tie.Need-loop-holds Inv-loop μ-loop
 loop-holds c = search needs
@@ -20,6 +21,9 @@ mul-put-undo c = search needs
 
 shared-slice-read-put-undo : tie.Need-shared-slice-read-put-undo Inv-loop μ-loop
 shared-slice-read-put-undo c = search needs
+
+element-copy-out-put-undo : tie.Need-element-copy-out-put-undo Inv-loop μ-loop
+element-copy-out-put-undo c = search needs
 
 put-undo-requires : tie.Need-put-undo-requires Inv-loop μ-loop
 put-undo-requires c κs = search needs
@@ -48,6 +52,7 @@ put-undos-spec =
     loop-holds
     mul-put-undo
     shared-slice-read-put-undo
+    element-copy-out-put-undo
     put-undo-requires
     add-i
     loop-less
