@@ -2,7 +2,7 @@
 use mathlib.Core.Path.{_≡_, refl, sym, ap, _∙_}
 use mathlib.Core.Logic.{_≢_}
 use mathlib.Core.List.{List, _∷_, _++_}
-use mathlib.Core.Bool.{Bool, true, false, cond, not, _||_}
+use mathlib.Core.Bool.{Bool, true, false, cond, not, _||_, _&&_, Bool·not-not, and-true, and-false, and-assoc}
 use Prim.Native.Nat.{ℕ, _+_, _-_, _≤_}
 use native.Mathlib.Omega.{arith}
 use borrow.Author.Tests.{eq-eqb, ne-eqb}
@@ -15,7 +15,7 @@ use Rattle.format.specs.Read.{keyOf}
 use Rattle.format.specs.Encode.{encode}
 use Rattle.moves.specs.Move.{holds}
 use Rattle.reader.specs.Head.{body, childCount}
-use Rattle.paths.specs.Rows.{no-action, channel, and, shown, actions, scopes, sides, ends}
+use Rattle.paths.specs.Rows.{no-action, channel, shown, actions, scopes, sides, ends}
 use Rattle.paths.proofs.Lines.{length-actions, length-scopes, length-sides, length-ends}
 use Rattle.index.specs.declared.Span.{Span}
 use Rattle.index.specs.Chart.{Noted, Room, Stands, Charted, Charts}
@@ -31,25 +31,9 @@ dead-row (cho t u) = rw (dead-row t, dead-row u, replicate-append-replicate (siz
 dead-row (par t u) = rw (dead-row t, dead-row u, replicate-append-replicate (size t) (size u) no-action)
 dead-row (res a t) = rw (dead-row t)
 
-and-false : (b : Bool) → and b false ≡ false
-and-false true = refl
-and-false false = refl
-
-and-true : (b : Bool) → and b true ≡ b
-and-true true = refl
-and-true false = refl
-
-not-not : (b : Bool) → not (not b) ≡ b
-not-not true = refl
-not-not false = refl
-
-and-and : (a b c : Bool) → and (and a b) c ≡ and a (and b c)
-and-and true b c = refl
-and-and false b c = refl
-
 -- the first side of a choice is silenced if the second holds a key
 silenced : (A w : List ℕ) (n : Node) (t : Term) (live dead : Bool)
-    → sets (sets A (n + 1) (actions live t ++ w)) (n + 1) (replicate (cond dead (n + 1 + size t) (n + 1) - (n + 1)) no-action) ≡ sets A (n + 1) (actions (and live (not dead)) t ++ w)
+    → sets (sets A (n + 1) (actions live t ++ w)) (n + 1) (replicate (cond dead (n + 1 + size t) (n + 1) - (n + 1)) no-action) ≡ sets A (n + 1) (actions (live && not dead) t ++ w)
 silenced A w n t live true = let e : n + 1 + size t - (n + 1) ≡ size t = omega arith in
     rw (e, ← dead-row t, and-false live) (sets-over A (n + 1) (actions live t) (actions false t) w (length-actions false t ∙ sym (length-actions live t)))
 silenced A w n t live false = let e : n + 1 - (n + 1) ≡ 0 = omega arith in rw (e, and-true live)
@@ -89,7 +73,7 @@ module _ (s : List ℕ) (at n kind : ℕ) (e : kind ≡ getD s at 0) (live : Boo
   -- a prefix: the rows after its child have a ₁
   module _ (table₁ A₁ R₁ S₁ E₁ A₂ R₂ S₂ E₂ : List ℕ) (b r : Span) where
     pub charts-prefix : (done on open-above may : Bool) (action index : ℕ) → kind ≡ 1
-        → done ≡ not (eqb (keyOf (getD s (at + 2) 0) (getD s (at + 3) 0)) 0) → on ≡ and live done → open-above ≡ and live (not done) → may ≡ and open-above (not (b .holds))
+        → done ≡ not (eqb (keyOf (getD s (at + 2) 0) (getD s (at + 3) 0)) 0) → on ≡ live && done → open-above ≡ live && not done → may ≡ open-above && not (b .holds)
         → action ≡ shown may (getD s (at + 1) 0) → index ≡ channel (getD s (at + 1) 0)
         → Charts s (at + 1 + body kind) (n + 1) on side table A R S E table₁ A₁ R₁ S₁ E₁ b
         → Noted n action (getD table₁ index 0) side (b .end) A₁ R₁ S₁ E₁ A₂ R₂ S₂ E₂
@@ -107,8 +91,8 @@ module _ (s : List ℕ) (at n kind : ℕ) (e : kind ≡ getD s at 0) (live : Boo
           end-is = y ∙ F .end-is ∙ (unfold size in omega arith);
           holds-is = h ∙ rw (d, v .2, F .holds-is) (unfold holds in refl);
           table-is = F .table-is;
-          action-row = N .action-is ∙ rw (F .action-row, a, m, w, o, d, v .1, v .2, F .holds-is, not-not (eqb k 0), and-and live (eqb k 0) (not (holds t)))
-              (sets-one A n _ (actions (and live (not (eqb k 0))) t) ∙ (unfold actions in refl));
+          action-row = N .action-is ∙ rw (F .action-row, a, m, w, o, d, v .1, v .2, F .holds-is, Bool·not-not (eqb k 0), and-assoc live (eqb k 0) (not (holds t)))
+              (sets-one A n _ (actions (live && not (eqb k 0)) t) ∙ (unfold actions in refl));
           scope-row = N .scope-is ∙ rw (F .scope-row, F .table-is, z, v .1) (sets-one R n _ (scopes table (n + 1) t) ∙ (unfold scopes in refl));
           side-row = N .side-is ∙ rw (F .side-row) (sets-one S n side (sides side (n + 1) t) ∙ (unfold sides in refl));
           end-row = N .end-is ∙ rw (F .end-row, F .end-is) (sets-one E n (n + 1 + size t) (ends (n + 1) t) ∙ (unfold ends in refl));
@@ -140,8 +124,8 @@ module _ (s : List ℕ) (at n kind : ℕ) (e : kind ≡ getD s at 0) (live : Boo
 -- A node with two children: the rows after the first have a ₁, after the second a ₂; A₃ is silenced, and a ₄ stands after the node's own line.
 module _ (s : List ℕ) (at n kind : ℕ) (e : kind ≡ getD s at 0) (live : Bool) (side : Node) (table A R S E table₁ A₁ R₁ S₁ E₁ table₂ A₂ R₂ S₂ E₂ A₃ A₄ R₄ S₄ E₄ : List ℕ) (b g r : Span)
     (choice over on dead : Bool) (side₁ to : ℕ) where
-  pub charts-two : (childCount kind ≡ 0 → ⊥) → kind ≢ 1 → (childCount kind ≡ 1 → ⊥) → choice ≡ eqb kind 2 → side₁ ≡ cond choice (n + 1) side → over ≡ and choice (b .holds) → on ≡ and live (not over)
-      → dead ≡ and choice (g .holds) → to ≡ cond dead (b .end) (n + 1)
+  pub charts-two : (childCount kind ≡ 0 → ⊥) → kind ≢ 1 → (childCount kind ≡ 1 → ⊥) → choice ≡ eqb kind 2 → side₁ ≡ cond choice (n + 1) side → over ≡ choice && (b .holds) → on ≡ live && not over
+      → dead ≡ choice && (g .holds) → to ≡ cond dead (b .end) (n + 1)
       → Charts s (at + 1 + body kind) (n + 1) live side₁ table A R S E table₁ A₁ R₁ S₁ E₁ b
       → Charts s (b .next) (b .end) on side table₁ A₁ R₁ S₁ E₁ table₂ A₂ R₂ S₂ E₂ g
       → A₃ ≡ sets A₂ (n + 1) (replicate (to - (n + 1)) no-action)
@@ -156,9 +140,9 @@ module _ (s : List ℕ) (at n kind : ℕ) (e : kind ≡ getD s at 0) (live : Boo
 
       actions-of : (t u : Term) → Charted t (at + 1 + body kind) (n + 1) live side₁ table A R S E table₁ A₁ R₁ S₁ E₁ b
           → Charted u (at + 1 + body kind + length (encode t)) (n + 1 + size t) on side table A₁ R₁ S₁ E₁ table₂ A₂ R₂ S₂ E₂ g
-          → A₄ ≡ sets A n (no-action ∷ (actions (and live (not dead)) t ++ actions on u))
+          → A₄ ≡ sets A n (no-action ∷ (actions (live && not dead) t ++ actions on u))
       actions-of t u F G = N .action-is ∙ rw (f, k, G .action-row, F .action-row, F .end-is, ← length-actions live t, ← sets-append A (n + 1) (actions live t) (actions on u), length-actions live t, silenced A (actions on u) n t live dead)
-          (sets-one A n no-action (actions (and live (not dead)) t ++ actions on u))
+          (sets-one A n no-action (actions (live && not dead) t ++ actions on u))
 
       two : (t : Term) → View s at n kind (at + 1 + body kind) t → Charted t at n live side table A R S E table₂ A₄ R₄ S₄ E₄ r
       two nil v = absurd (z (rw v))

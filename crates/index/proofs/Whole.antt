@@ -9,15 +9,15 @@ use lib.ListN.{length, drop, length-replicate, List·getD-append}
 use lib.Seq.{sets, sets-eq}
 use Rattle.ccsk.specs.Term.{Term, size}
 use Rattle.format.specs.Limits.{node-limit}
-use Rattle.format.specs.Read.{Reads, Refuses}
+use Rattle.format.specs.Read.{Reads}
 use Rattle.format.specs.Encode.{encode, Fits, Bytes}
 use Rattle.format.proofs.Unique.{encode-decode}
 use Rattle.format.proofs.Refusals.{decode-refusals}
 use Rattle.operations.specs.Ask.{ReadRecord}
-use Rattle.reader.proofs.Whole.{record-cases, record-refused}
+use Rattle.reader.proofs.Whole.{record-cases}
 use Rattle.reader.specs.Count.{refusal, nodes}
 use Rattle.reader.specs.declared.Count.{Count}
-use Rattle.reader.specs.declared.Count.the-variants.{Refused, Nodes}
+use Rattle.reader.specs.declared.Count.the-variants.{Nodes}
 use Rattle.paths.specs.Rows.{Holds, no-scopes, actions, scopes, sides, ends}
 use Rattle.paths.proofs.Lines.{length-actions, length-scopes, length-sides, length-ends}
 use Rattle.index.specs.declared.Span.{Span}
@@ -32,9 +32,6 @@ written l x k e h g = record {
 }
 
 module _ (s : List ℕ) (r : Count) (R : ReadRecord s (refusal r) (nodes r)) where
-  pub was-refused : (c : ℕ) → r ≡ Refused c → Refuses s c
-  was-refused c e = record-refused s c (subst (λ (x : Count). ReadRecord s (refusal x) (nodes x)) e R)
-
   -- the term that was read
   pub was-read : Bytes s → (n : ℕ) → r ≡ Nodes n → (t : Term) × Reads s t × Fits t × (n ≡ size t) × Stands s 0 0 t
   was-read B n e = ⊎-elim (λ w. absurd (⊎-elim (λ z. omega arith) (λ z. omega arith) (decode-refusals s 0 (w .0))))

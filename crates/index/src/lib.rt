@@ -1,13 +1,13 @@
 // The rows of a record, filled in one pass: what a search for steps has to know of each node.
 ghost use mathlib.Core.Path.{_≡_};
-ghost use mathlib.Core.Bool.{cond, not, _||_};
-ghost use Prim.Native.Nat.{ℕ, _+_, _-_, _≤_, _<_};
+ghost use mathlib.Core.Bool.{cond, not, _&&_};
+ghost use Prim.Native.Nat.{_-_, _≤_, _<_};
 ghost use lib.Dec.{eqb};
-ghost use lib.ListN.{length, set, replicate};
+ghost use lib.ListN.{length, replicate};
 ghost use lib.Seq.{sets};
 ghost use Rattle.format.specs.Limits.{node-limit};
 ghost use Rattle.format.specs.Read.{keyOf};
-ghost use Rattle.paths.specs.Rows.{no-action, channel, and, shown};
+ghost use Rattle.paths.specs.Rows.{no-action, channel, shown};
 ghost use Rattle.index.specs.Chart.{Noted, Room, SomeTerm, Charts};
 ghost use Rattle.index.specs.Whole.{Indexes};
 use reader::CHOICE;
@@ -19,9 +19,12 @@ use reader::body_length;
 use reader::child_count;
 use reader::read;
 use reader::wide;
-
-// How many names there are, with 0, which is none.
-pub const NAMES: usize = 128;
+use shared::CO;
+use shared::NAMES;
+use shared::NOT_DONE;
+use shared::both;
+use shared::either;
+use shared::key_of;
 
 // Where a term ends: the place after its bytes, the node after its last, and whether some prefix of it holds a key.
 pub struct Span {
@@ -45,32 +48,22 @@ fn ended(next: usize, end: usize, holds: bool) -> Span
 fn channel_of(a: u8) -> usize
     ensures { λ r. ⌜ (r ≡ channel a) × (r < 128) ⌝ }
 {
-    if a < 128 {
+    if a < CO {
         return a as usize;
     }
-    (a - 128) as usize
+    (a - CO) as usize
 }
 
 // Whether a key is not 0.
 fn is_done(high: u8, low: u8) -> bool
     ensures { λ r. ⌜ r ≡ not (eqb (keyOf high low) 0) ⌝ }
 {
-    high as u16 * 256 + low as u16 != 0
-}
-
-// Both hold.
-fn both(x: bool, y: bool) -> bool
-    ensures { λ r. ⌜ r ≡ and x y ⌝ }
-{
-    if x {
-        return y;
-    }
-    false
+    key_of(high, low) != NOT_DONE
 }
 
 // The first holds and the second does not.
 fn but_not(x: bool, y: bool) -> bool
-    ensures { λ r. ⌜ r ≡ and x (not y) ⌝ }
+    ensures { λ r. ⌜ r ≡ (x && not y) ⌝ }
 {
     if x {
         if y {
@@ -79,16 +72,6 @@ fn but_not(x: bool, y: bool) -> bool
         return true;
     }
     false
-}
-
-// One of the two holds, or both.
-fn either(x: bool, y: bool) -> bool
-    ensures { λ r. ⌜ r ≡ (x || y) ⌝ }
-{
-    if x {
-        return true;
-    }
-    y
 }
 
 // The action, where it may be seen.

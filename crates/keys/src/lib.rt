@@ -3,7 +3,6 @@ ghost use mathlib.Core.Path.{_≡_};
 ghost use mathlib.Core.List.{[]};
 ghost use Prim.Native.Nat.{_+_, _<_};
 ghost use lib.ListN.{length, getD};
-ghost use Rattle.format.specs.Read.{keyOf};
 ghost use Rattle.format.proofs.Flat.{keyAt};
 ghost use Rattle.operations.specs.Ask.{KeyCount, FreeKey};
 ghost use Rattle.operations.specs.Change.{BlankForm};
@@ -11,6 +10,8 @@ ghost use Rattle.keys.specs.Number.{refusal, value};
 ghost use Rattle.keys.specs.Gather.{Readable, Holds, Marked, Scanned, Gathered, clearedAt, Cleared};
 use keyset::BYTES;
 use reader::Count;
+use shared::NOT_DONE;
+use shared::key_of;
 
 // The kind of a prefix, as a byte.
 const PREFIX: u8 = reader::PREFIX as u8;
@@ -19,13 +20,6 @@ const PREFIX: u8 = reader::PREFIX as u8;
 pub enum Number {
     Refused(u8),
     Is(usize),
-}
-
-// A key from its two bytes.
-fn key_of(high: u8, low: u8) -> u16
-    ensures { λ r. ⌜ r ≡ keyOf high low ⌝ }
-{
-    high as u16 * 256 + low as u16
 }
 
 // The key that the node at `at` holds; 0 if it is no prefix. A helper between crates: the caller has seen that the node's bytes are there.
@@ -44,7 +38,7 @@ pub fn mark(marks: &mut [u8; BYTES], key: u16) -> usize
     requires { ⌜ length (now marks) ≡ 8192 ⌝ }
     ensures { λ r. ⌜ Marked (now (marks .entry)) key (now (marks .exit)) r ⌝ }
 {
-    if key == 0 {
+    if key == NOT_DONE {
         return 0;
     }
     keyset::add(marks, key)

@@ -5,19 +5,13 @@ ghost use Prim.Native.Nat.{ℕ, _+_, _*_, _<_, _≤_};
 ghost use lib.Dec.{eqb};
 ghost use lib.ListN.{length};
 ghost use Rattle.keyset.specs.Set.{bit, power, member, Added, Missing, LeastMissing, membersBelow, Listed, Fronted};
+use shared::wide;
 
 // Every 16-bit key has a bit.
 pub const BYTES: usize = 8192;
 
 // A byte of the set that holds all its eight keys.
 const FULL: u8 = 255;
-
-// A key as an index.
-fn wide(key: u16) -> usize
-    ensures { λ r. ⌜ r ≡ key ⌝ }
-{
-    key as usize
-}
 
 // Whether the byte has bit i.
 fn has_bit(byte: u8, i: usize) -> bool

@@ -7,6 +7,8 @@ ghost use Rattle.links.specs.Classes.{class, classes};
 ghost use Rattle.links.specs.Links.{turn, Scoped, Linked};
 use reader::NO_ACTION;
 use reader::NODES;
+use shared::CO;
+use shared::NAMES;
 
 // The end of each chain of links.
 pub const NONE: u16 = NODES as u16;
@@ -18,10 +20,10 @@ const CLASSES: usize = 256 + 2 * (NODES + 1);
 pub fn turned(a: u8) -> u8
     ensures { λ r. ⌜ r ≡ turn a ⌝ }
 {
-    if a < 128 {
-        return a + 128;
+    if a < CO {
+        return a + CO;
     }
-    a - 128
+    a - CO
 }
 
 // The class of a prefix.
@@ -32,7 +34,7 @@ fn class_of(action: u8, scope: u16) -> usize
     if scope == 0 {
         return action as usize;
     }
-    256 + 2 * scope as usize + action as usize / 128
+    256 + 2 * scope as usize + action as usize / NAMES
 }
 
 // Fills the two rows of links, from the last node to the first. For each class the least node so far is at hand.

@@ -2,7 +2,7 @@
 use mathlib.Core.Path.{_≡_, refl, sym, ap, _∙_}
 use mathlib.Core.Logic.{_⊎_, inl, inr, ⊎-elim, _≢_}
 use mathlib.Core.List.{List, [], _∷_}
-use mathlib.Core.Bool.{Bool, true, false, not}
+use mathlib.Core.Bool.{Bool, true, false, not, _&&_}
 use Prim.Native.Nat.{ℕ, _+_, _-_, _<_, _≤_}
 use native.Mathlib.Decide.{ℕ-discrete}
 use native.Mathlib.Omega.{arith}
@@ -17,7 +17,7 @@ use Rattle.ccsk.proofs.ForwardDec.{do-zero, do-pre, do-cho, do-par, do-res}
 use Rattle.format.specs.Encode.{InRange}
 use Rattle.moves.specs.Move.{holds}
 use Rattle.moves.proofs.Holds.{Says, equal-says, Holding, holding, holds-std}
-use Rattle.paths.specs.Rows.{no-action, channel, and, shown, Joined}
+use Rattle.paths.specs.Rows.{no-action, channel, shown, Joined}
 use Rattle.paths.proofs.Channels.{on-channel, co-action}
 use Rattle.paths.proofs.Lines.{Laid}
 use Rattle.paths.proofs.Climb.{Inside, one-below, two-below, barred-here, barred-same, laid-end}
@@ -65,7 +65,7 @@ unfolding shift
 two-shift k i j p q e f = rw (e, f)
 
 -- a prefix that has its action in the row is not done, and nothing below it is
-ready : (b c : Bool) (k : Key) (t : Term) (a v : Label) → Says b (k ≡ 0) → Holding c t → v ≡ shown (and b (not c)) a → v ≢ no-action → (k ≡ 0) × Std t × (v ≡ a)
+ready : (b c : Bool) (k : Key) (t : Term) (a v : Label) → Says b (k ≡ 0) → Holding c t → v ≡ shown (b && not c) a → v ≢ no-action → (k ≡ 0) × Std t × (v ≡ a)
 ready true false k t a v z s e f = (z, s, e)
 ready true true k t a v z s e f = absurd (f e)
 ready false c k t a v z s e f = absurd (f e)
@@ -106,7 +106,7 @@ module _ (A R S E : List ℕ) where
   unfolding size
   scope-of live table side n nil p L g z i f = let e : p ≡ n = omega arith in absurd (f (rw e (L .0)))
   scope-of live table side n (pre a k t) p L g z i f = one-below n (size t) p (i .0) (omega arith)
-      (λ e. inl (rw e (L .0 .1 ∙ ap (λ (v : ℕ). getD table (channel v) 0) (sym (seen (and live (and (eqb k 0) (not (holds t)))) _ a (L .0 .0) (rw e at f))))))
+      (λ e. inl (rw e (L .0 .1 ∙ ap (λ (v : ℕ). getD table (channel v) 0) (sym (seen (live && (eqb k 0 && not (holds t))) _ a (L .0 .0) (rw e at f))))))
       (λ j. within table n (n + 1) t (pre a k t) p (omega arith) (omega arith) (scope-of _ table side (n + 1) t p (L .1) (g .3) z j f))
   scope-of live table side n (cho t u) p L g z i f = two-below n (size t) (size u) p (i .0) (omega arith)
       (λ e. absurd (f (rw e (L .0 .0))))

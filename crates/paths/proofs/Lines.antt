@@ -1,7 +1,7 @@
 -- The rows of a term, taken apart along the term: the line of its root, and the lines of what stands below.
 use mathlib.Core.Path.{_≡_, refl, _∙_}
 use mathlib.Core.List.{List, _∷_, _++_}
-use mathlib.Core.Bool.{Bool, not}
+use mathlib.Core.Bool.{Bool, not, _&&_}
 use Prim.Native.Nat.{ℕ, suc, _+_}
 use native.Mathlib.Omega.{arith}
 use native.Mathlib.Nat.{add-zero}
@@ -10,7 +10,7 @@ use lib.ListN.{length, getD, set, length-append, List·getD-append}
 use lib.Seq.{getD-append-add}
 use Rattle.ccsk.specs.Term.{Term, Node, nil, pre, cho, par, res, size}
 use Rattle.moves.specs.Move.{holds}
-use Rattle.paths.specs.Rows.{Holds, no-action, channel, and, shown, actions, scopes, sides, ends}
+use Rattle.paths.specs.Rows.{Holds, no-action, channel, shown, actions, scopes, sides, ends}
 
 pub holds-head : {l x : List ℕ} {n v : ℕ} → Holds l n (v ∷ x) → getD l n 0 ≡ v
 holds-head {n = n} f = let e : n + 0 ≡ n = add-zero n in rw e at (f .at 0 (omega arith))
@@ -29,8 +29,8 @@ holds-right {n = n} x y k e f = record {
 pub length-actions : (live : Bool) (t : Term) → length (actions live t) ≡ size t
 unfolding actions size
 length-actions live nil = refl
-length-actions live (pre a k t) = rw (length-actions (and live (not (eqb k 0))) t)
-length-actions live (cho t u) = rw (length-append, length-actions (and live (not (holds u))) t, length-actions (and live (not (holds t))) u)
+length-actions live (pre a k t) = rw (length-actions (live && not (eqb k 0)) t)
+length-actions live (cho t u) = rw (length-append, length-actions (live && not (holds u)) t, length-actions (live && not (holds t)) u)
 length-actions live (par t u) = rw (length-append, length-actions live t, length-actions live u)
 length-actions live (res a t) = rw (length-actions live t)
 
@@ -66,8 +66,8 @@ module _ (A R S E : List ℕ) where
   -- the rows hold the lines of the term t, whose root is node n
   abbrev pub Laid : Bool → List ℕ → Node → Node → Term → Type 0
   Laid live table side n nil = Line n no-action 0 side (n + 1)
-  Laid live table side n (pre a k t) = Line n (shown (and live (and (eqb k 0) (not (holds t)))) a) (getD table (channel a) 0) side (n + 1 + size t) × Laid (and live (not (eqb k 0))) table side (n + 1) t
-  Laid live table side n (cho t u) = Line n no-action 0 side (n + 1 + size t + size u) × Laid (and live (not (holds u))) table (n + 1) (n + 1) t × Laid (and live (not (holds t))) table side (n + 1 + size t) u
+  Laid live table side n (pre a k t) = Line n (shown (live && (eqb k 0 && not (holds t))) a) (getD table (channel a) 0) side (n + 1 + size t) × Laid (live && not (eqb k 0)) table side (n + 1) t
+  Laid live table side n (cho t u) = Line n no-action 0 side (n + 1 + size t + size u) × Laid (live && not (holds u)) table (n + 1) (n + 1) t × Laid (live && not (holds t)) table side (n + 1 + size t) u
   Laid live table side n (par t u) = Line n no-action 0 side (n + 1 + size t + size u) × Laid live table side (n + 1) t × Laid live table side (n + 1 + size t) u
   Laid live table side n (res a t) = Line n no-action 0 side (n + 1 + size t) × Laid live (set table a (n + 1)) side (n + 1) t
 
@@ -77,14 +77,14 @@ module _ (A R S E : List ℕ) where
   pub laid : (live : Bool) (table : List ℕ) (side n : Node) (t : Term) → Holds A n (actions live t) → Holds R n (scopes table n t) → Holds S n (sides side n t) → Holds E n (ends n t) → Laid live table side n t
   unfolding actions scopes sides ends
   laid live table side n nil f g h i = root f g h i
-  laid live table side n (pre a k t) f g h i = (root f g h i, laid (and live (not (eqb k 0))) table side (n + 1) t (holds-tail f) (holds-tail g) (holds-tail h) (holds-tail i))
+  laid live table side n (pre a k t) f g h i = (root f g h i, laid (live && not (eqb k 0)) table side (n + 1) t (holds-tail f) (holds-tail g) (holds-tail h) (holds-tail i))
   laid live table side n (cho t u) f g h i =
       let f′ = holds-tail f in let g′ = holds-tail g in let h′ = holds-tail h in let i′ = holds-tail i in
-      let x = actions (and live (not (holds u))) t in let y = scopes table (n + 1) t in let z = sides (n + 1) (n + 1) t in let w = ends (n + 1) t in (
+      let x = actions (live && not (holds u)) t in let y = scopes table (n + 1) t in let z = sides (n + 1) (n + 1) t in let w = ends (n + 1) t in (
         root f g h i,
-        laid (and live (not (holds u))) table (n + 1) (n + 1) t (holds-left x _ f′) (holds-left y _ g′) (holds-left z _ h′) (holds-left w _ i′),
-        laid (and live (not (holds t))) table side (n + 1 + size t) u
-            (holds-right x _ (size t) (length-actions (and live (not (holds u))) t) f′)
+        laid (live && not (holds u)) table (n + 1) (n + 1) t (holds-left x _ f′) (holds-left y _ g′) (holds-left z _ h′) (holds-left w _ i′),
+        laid (live && not (holds t)) table side (n + 1 + size t) u
+            (holds-right x _ (size t) (length-actions (live && not (holds u)) t) f′)
             (holds-right y _ (size t) (length-scopes table (n + 1) t) g′)
             (holds-right z _ (size t) (length-sides (n + 1) (n + 1) t) h′)
             (holds-right w _ (size t) (length-ends (n + 1) t) i′),

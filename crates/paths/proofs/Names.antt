@@ -2,7 +2,7 @@
 use mathlib.Core.Path.{_≡_, refl, _∙_}
 use mathlib.Core.Logic.{_⊎_, inr, _≢_}
 use mathlib.Core.List.{List, [], _∷_, _++_}
-use mathlib.Core.Bool.{Bool, true, false, not}
+use mathlib.Core.Bool.{Bool, true, false, not, _&&_}
 use Prim.Native.Nat.{ℕ, _+_, _-_, _<_, _≤_}
 use native.Mathlib.Decide.{ℕ-discrete}
 use native.Mathlib.Omega.{arith}
@@ -12,7 +12,7 @@ use lib.Seq.{getD-set-same, getD-set-other}
 use Rattle.ccsk.specs.Term.{Term, Name, Label, Node, nil, pre, cho, par, res, size}
 use Rattle.format.specs.Encode.{InRange}
 use Rattle.moves.specs.Move.{holds}
-use Rattle.paths.specs.Rows.{Holds, no-action, channel, and, shown}
+use Rattle.paths.specs.Rows.{Holds, no-action, channel, shown}
 use Rattle.paths.proofs.Lines.{Laid, holds-head, holds-tail, holds-left, holds-right}
 use Rattle.paths.proofs.Climb.{Inside, one-below, two-below}
 
@@ -58,7 +58,7 @@ module _ (A R S E N : List ℕ) where
   unfolding size hidden
   named live table side n nil p L H g T i f = let e : p ≡ n = omega arith in absurd (f (rw e (L .0)))
   named live table side n (pre a k t) p L H g T i f = one-below n (size t) p (i .0) (omega arith)
-      (λ e. rw (e, seen (and live (and (eqb k 0) (not (holds t)))) _ a (L .0 .0) (rw e at f), L .0 .1) (g .0, T .1 (channel a)))
+      (λ e. rw (e, seen (live && (eqb k 0 && not (holds t))) _ a (L .0 .0) (rw e at f), L .0 .1) (g .0, T .1 (channel a)))
       (λ j. named _ table side (n + 1) t p (L .1) (holds-tail H) (g .3) T j f)
   named live table side n (cho t u) p L H g T i f = let H′ = holds-tail H in two-below n (size t) (size u) p (i .0) (omega arith)
       (λ e. absurd (f (rw e (L .0 .0))))

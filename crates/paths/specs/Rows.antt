@@ -2,7 +2,7 @@
 use mathlib.Core.Path.{_≡_}
 use mathlib.Core.Logic.{_≢_}
 use mathlib.Core.List.{List, [], _∷_, _++_}
-use mathlib.Core.Bool.{Bool, true, false, cond, not}
+use mathlib.Core.Bool.{Bool, true, false, cond, not, _&&_}
 use Prim.Native.Nat.{ℕ, suc, _+_, _-_, _<_, _≤_}
 use lib.Dec.{eqb, ltb}
 use lib.ListN.{length, getD, set, replicate}
@@ -17,10 +17,6 @@ no-action = 128
 abbrev pub channel : Label → Name
 channel l = cond (ltb l 128) l (l - 128)
 
-abbrev pub and : Bool → Bool → Bool
-and true b = b
-and false b = false
-
 abbrev pub shown : Bool → Label → Label
 shown true a = a
 shown false a = no-action
@@ -29,8 +25,8 @@ shown false a = no-action
 -- and in each choice above the other side holds no key. `live` says the latter of what stands above the term. Any other node has no action.
 unfoldable pub actions : Bool → Term → List Label
 actions live nil = no-action ∷ []
-actions live (pre a k t) = shown (and live (and (eqb k 0) (not (holds t)))) a ∷ actions (and live (not (eqb k 0))) t
-actions live (cho t u) = no-action ∷ (actions (and live (not (holds u))) t ++ actions (and live (not (holds t))) u)
+actions live (pre a k t) = shown (live && (eqb k 0 && not (holds t))) a ∷ actions (live && not (eqb k 0)) t
+actions live (cho t u) = no-action ∷ (actions (live && not (holds u)) t ++ actions (live && not (holds t)) u)
 actions live (par t u) = no-action ∷ (actions live t ++ actions live u)
 actions live (res a t) = no-action ∷ actions live t
 

@@ -1,18 +1,12 @@
 // Dense numbers for the keys of a set: a member's rank is how many members are below it. Helpers between crates; each asks that the arrays are whole.
 use keyset::BYTES;
 use keyset::has;
+use shared::wide;
 ghost use mathlib.Core.Path.{_≡_};
 ghost use Prim.Native.Nat.{_+_, _*_, _≤_, _<_};
 ghost use lib.ListN.{length};
 ghost use Rattle.keyset.specs.Set.{member};
 ghost use Rattle.rank.specs.Rank.{one-more, rank, Ranked};
-
-// A 16-bit number as an index.
-fn wide(x: u16) -> usize
-    ensures { λ r. ⌜ r ≡ x ⌝ }
-{
-    x as usize
-}
 
 // One more than n, if k is in the set.
 fn counted(marks: &[u8; BYTES], k: usize, n: usize) -> usize

@@ -5,9 +5,7 @@ ghost use Rattle.operations.specs.Ask.{Filled};
 ghost use Rattle.keyset.specs.Set.{membersBelow};
 ghost use Rattle.rows.specs.Row.{refusal, count};
 use keyset::BYTES;
-
-// Refusal: the lent row is shorter than the list.
-pub const SHORT: u8 = 9;
+use shared::SHORT_ROW;
 
 // An answer that fills a lent row: the refusal, or how many places were written.
 pub enum Row {
@@ -22,7 +20,7 @@ pub fn fill(marks: &[u8; BYTES], n: usize, row: &mut [u16]) -> Row
     ensures { λ r. ⌜ Filled (membersBelow (now (marks .entry)) 65536) (now (row .entry)) (refusal r) (count r) (now (row .exit)) ⌝ }
 {
     if row.len() < n {
-        return Row::Refused(SHORT);
+        return Row::Refused(SHORT_ROW);
     }
     keyset::list(marks, n, row);
     Row::Count(n)

@@ -17,19 +17,13 @@ use reader::Count;
 use reader::NO_ACTION;
 use reader::NODES;
 use reader::Node;
+use shared::wide;
 
 // The answer: a refusal, none, or the places and the label of the first step.
 pub enum First {
     Refused(u8),
     None,
     Found { p: u16, q: u16, label: u8 },
-}
-
-// A node number as an index.
-fn number(x: u16) -> usize
-    ensures { λ r. ⌜ r ≡ x ⌝ }
-{
-    x as usize
 }
 
 // Whether an action is the wanted one, under the same restriction.
@@ -61,13 +55,13 @@ fn seek(
     ensures { λ r. ⌜ Seeks nodes (now (actions .entry)) (now (scopes .entry)) (now (twins .entry)) (now (partners .entry)) i from r ⌝ }
 {
     if from <= i + 1 {
-        return number(partners[i]);
+        return wide(partners[i]);
     }
     let want = turned(actions[i]);
     let last = from - 1;
     if last < nodes {
         if agree(want, actions[last], scopes[last], scopes[i]) {
-            return number(twins[last]);
+            return wide(twins[last]);
         }
     }
     let mut j = from;
@@ -88,10 +82,10 @@ fn climb(side: usize, q: usize, nodes: usize, sides: &[u16; NODES], ends: &[u16;
     let mut c = side;
     while c != 0 {
         let choice = c - 1;
-        if q < number(ends[choice]) {
+        if q < wide(ends[choice]) {
             return c;
         }
-        c = number(sides[choice]);
+        c = wide(sides[choice]);
     }
     0
 }
@@ -104,7 +98,7 @@ fn is_clear(side: usize, q: usize, ends: &[u16; NODES]) -> bool
     if side == 0 {
         return true;
     }
-    q < number(ends[side])
+    q < wide(ends[side])
 }
 
 // Whether the search is before the pairs of a place, and no restriction stands above that place.
@@ -138,22 +132,22 @@ pub fn settle(
         if actions[i] == NO_ACTION {
             continue;
         }
-        let twin = number(twins[i]);
-        let mut side = number(sides[i]);
-        let mut j = number(partners[i]);
+        let twin = wide(twins[i]);
+        let mut side = wide(sides[i]);
+        let mut j = wide(partners[i]);
         'partner: while j < nodes {
             side = climb(side, j, nodes, sides, ends);
             if is_clear(side, j, ends) {
                 break 'partner;
             }
-            if twin < number(ends[side]) {
-                let led = number(partners[twin]);
+            if twin < wide(ends[side]) {
+                let led = wide(partners[twin]);
                 if j < led {
                     j = led;
                     continue 'partner;
                 }
             }
-            j = number(twins[j]);
+            j = wide(twins[j]);
         }
         partners[i] = j as u16;
     }
@@ -176,8 +170,8 @@ pub fn next_step(
     requires { ⌜ Settled nodes (now actions) (now scopes) (now sides) (now ends) (now twins) (now partners) ⌝ }
     ensures { λ r. ⌜ Next nodes (now (actions .entry)) (now (scopes .entry)) (now (sides .entry)) (now (ends .entry)) (p .0) (q .0) r ⌝ }
 {
-    let mut i = number(p.0);
-    let mut from = number(q.0);
+    let mut i = wide(p.0);
+    let mut from = wide(q.0);
     let mut j: usize = 0;
     let mut label: u8 = 0;
     'search: while i < nodes {
@@ -193,13 +187,13 @@ pub fn next_step(
             break 'search;
         }
         j = seek(actions, scopes, twins, partners, nodes, i, from);
-        let mut side = number(sides[i]);
+        let mut side = wide(sides[i]);
         while j < nodes {
             side = climb(side, j, nodes, sides, ends);
             if is_clear(side, j, ends) {
                 break 'search;
             }
-            j = number(twins[j]);
+            j = wide(twins[j]);
         }
         from = 0;
         i += 1;

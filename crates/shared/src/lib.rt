@@ -1,4 +1,4 @@
-// What several crates share: the numbers of labels and keys, numbers as indices, and tests that combine.
+// What several crates share: the numbers of labels, keys and refusals, numbers as indices, and tests that combine.
 ghost use mathlib.Core.Path.{_≡_};
 ghost use mathlib.Core.Bool.{_&&_, _||_};
 ghost use Prim.Native.Nat.{_<_};
@@ -16,6 +16,33 @@ pub const NAMES: usize = 128;
 
 // The key of a prefix that is not done.
 pub const NOT_DONE: u16 = 0;
+
+// Refusals (01, Operations and their refusals): the bytes are no record.
+pub const NO_RECORD: u8 = 1;
+
+// The record is over a limit.
+pub const OVER_LIMIT: u8 = 2;
+
+// The key is 0.
+pub const KEY_ZERO: u8 = 3;
+
+// p is no prefix node, or q is not 0 and is no prefix node or is at most p.
+pub const NO_PLACES: u8 = 4;
+
+// The key stands in the record already.
+pub const KEY_STANDS: u8 = 5;
+
+// The rules derive no such step.
+pub const NO_STEP: u8 = 6;
+
+// The key stands nowhere in the record.
+pub const KEY_ABSENT: u8 = 7;
+
+// The rules derive no undo of this key.
+pub const NO_UNDO: u8 = 8;
+
+// The lent row is shorter than the list.
+pub const SHORT_ROW: u8 = 9;
 
 // A 16-bit number as an index.
 pub fn wide(x: u16) -> usize

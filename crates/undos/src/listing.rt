@@ -7,9 +7,10 @@ use crate::group::settle;
 use keyset::BYTES;
 use rank::fill;
 use reader::DEPTH;
-use reader::NO_RECORD;
 use reader::NODES;
 use shared::NAMES;
+use shared::NO_RECORD;
+use shared::SHORT_ROW;
 ghost use mathlib.Core.Path.{_≡_};
 ghost use mathlib.Core.List.{List, _++_};
 ghost use Prim.Native.Nat.{ℕ, _+_, _≤_, _<_};
@@ -19,9 +20,6 @@ ghost use Rattle.operations.specs.Ask.{UndoListing};
 ghost use Rattle.undos.specs.Group.{Small, Positive, AllAmong, listed};
 ghost use Rattle.undos.specs.Rows.{refusal, count, Put, Lines};
 ghost use Rattle.undos.specs.Gather.{rows};
-
-// The row is shorter than the list.
-pub const SHORT_ROW: u8 = 9;
 
 // The answer of a listing: a refusal number, or how many places of the row were filled.
 pub enum Rows {

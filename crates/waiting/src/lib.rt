@@ -8,11 +8,8 @@ ghost use Rattle.waiting.specs.Below.{Stands, MetBy, ToMark, DueAfter, M
 use keyset::BYTES;
 use reader::Count;
 use rows::Row;
-
-// Refusals: the key is 0; the key stands nowhere in the record.
-pub const KEY_ZERO: u8 = 3;
-
-pub const KEY_ABSENT: u8 = 7;
+use shared::KEY_ABSENT;
+use shared::KEY_ZERO;
 
 // What passing over a record comes to: whether the key was met, and how many different keys stand below it.
 struct Passed {

@@ -10,10 +10,8 @@ use borrow.Fn.PlainCycle.{Measures, is, falls, and}
 use Rattle.index.proofs.chart.Reads as chart
 use Rattle.index.proofs.chart.Kinds as chart-kinds
 use Rattle.index.proofs.+chart.Lts-chart as chart-lts
-use Rattle.index.proofs.both.Reads as both-reads
 use Rattle.index.proofs.but_not.Reads as but-not-reads
 use Rattle.index.proofs.channel_of.Reads as channel-of-reads
-use Rattle.index.proofs.either.Reads as either-reads
 use Rattle.index.proofs.ended.Reads as ended-reads
 use Rattle.index.proofs.is_done.Reads as is-done-reads
 use Rattle.index.proofs.note.Reads as note-reads
@@ -23,6 +21,8 @@ use Rattle.index.proofs.silence.Reads as silence-reads
 use Rattle.reader.proofs.body_length.Reads as body-length-reads
 use Rattle.reader.proofs.child_count.Reads as child-count-reads
 use Rattle.reader.proofs.wide.Reads as wide-reads
+use Rattle.shared.proofs.both.Reads as both-reads
+use Rattle.shared.proofs.either.Reads as either-reads
 use Rattle.index.proofs.+chart.{statement}
 use Rattle.index.proofs.+chart.Tie.{close}
 

@@ -1,7 +1,8 @@
 -- `blank` meets its contract: the reader decides whether there is a record to wipe.
 use Rattle.operations.specs.Change.{BlankForm}
 use Rattle.keys.proofs.Marks.{holds-none}
-use Rattle.keys.proofs.Reading.{bytes-of, was-refused, was-read}
+use Rattle.reader.proofs.Whole.{record-refused, slice-bytes}
+use Rattle.keys.proofs.Reading.{was-read}
 use Rattle.keys.proofs.Answers.{blanked}
 use borrow.Author.Needs.{needs}
 use Rattle.keys.proofs.blank.Statement.{statement}
@@ -17,13 +18,13 @@ enum-told : tie.Need-enum-told
 enum-told c = search needs
 
 wipe-requires : tie.Need-wipe-requires
-wipe-requires c κs = (was-read (c .before .before .before .before .before .before .before .args .bytes .now) (c .before .before .before .before .read .result) (c .before .before .before .before .read .ensures) (bytes-of (c .before .before .before .before .before .before .before .args .bytes .now) (λ i. c .before .before .before .before .before .before .slice-known .given i .fits)) _ (c .before .before .enum-told .given .1), holds-none)
+wipe-requires c κs = (was-read (c .before .before .before .before .before .before .before .args .bytes .now) (c .before .before .before .before .read .result) (c .before .before .before .before .read .ensures) (slice-bytes (c .before .before .before .before .before .before .before .args .bytes .now) (λ i. c .before .before .before .before .before .before .slice-known .given i .fits)) _ (c .before .before .enum-told .given .1), holds-none)
 
 same-length : tie.Need-same-length
 same-length c = search needs
 
 returns : tie.Need-returns
-returns c = BlankForm.unreadable (was-refused (c .before .before .before .before .before .before .args .bytes .now) (c .before .before .before .read .result) (c .before .before .before .read .ensures) _ (c .before .r .given .1))
+returns c = BlankForm.unreadable (record-refused (c .before .before .before .before .before .before .args .bytes .now) _ (rw (c .before .r .given .1) at (c .before .before .before .read .ensures)))
 
 same-length-2 : tie.Need-same-length-2
 same-length-2 c = search needs

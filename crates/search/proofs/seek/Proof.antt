@@ -15,17 +15,17 @@ abbrev μ-loop : tie.MeasureT-loop
 add-if1 : tie.Need-add-if1 Inv-loop μ-loop
 add-if1 c = omega (arith, c .pre .0 .1 .0)
 
-mul-number : tie.Need-mul-number Inv-loop μ-loop
-mul-number c = omega (arith, c .before .pre .0 .1 .0)
+mul-wide : tie.Need-mul-wide Inv-loop μ-loop
+mul-wide c = omega (arith, c .before .pre .0 .1 .0)
 
-element-copy-out-number : tie.Need-element-copy-out-number Inv-loop μ-loop
-element-copy-out-number c = omega (arith, c .before .pre .0 .1 .0)
+element-copy-out-wide : tie.Need-element-copy-out-wide Inv-loop μ-loop
+element-copy-out-wide c = omega (arith, c .before .pre .0 .1 .0)
 
-number-requires : tie.Need-number-requires Inv-loop μ-loop
-number-requires c κs = tt
+wide-requires : tie.Need-wide-requires Inv-loop μ-loop
+wide-requires c κs = tt
 
 returns : tie.Need-returns Inv-loop μ-loop
-returns c = λ S E L. sought-partner _ _ _ S E _ _ _ _ _ (c .before .before .before .pre .0 .1) (c .before .before .if1 .taken) (c .number .ensures) L
+returns c = λ S E L. sought-partner _ _ _ S E _ _ _ _ _ (c .before .before .before .pre .0 .1) (c .before .before .if1 .taken) (c .wide .ensures) L
 
 element-copy-out-turned : tie.Need-element-copy-out-turned Inv-loop μ-loop
 element-copy-out-turned c = omega (arith, c .before .pre .0 .1 .0)
@@ -54,17 +54,17 @@ element-copy-out-agree-3 c = omega (arith, c .before .before .before .before .be
 agree-requires : tie.Need-agree-requires Inv-loop μ-loop
 agree-requires c κs = tt
 
-mul-number-2 : tie.Need-mul-number-2 Inv-loop μ-loop
-mul-number-2 c = omega arith
+mul-wide-2 : tie.Need-mul-wide-2 Inv-loop μ-loop
+mul-wide-2 c = omega arith
 
-element-copy-out-number-2 : tie.Need-element-copy-out-number-2 Inv-loop μ-loop
-element-copy-out-number-2 c = omega arith
+element-copy-out-wide-2 : tie.Need-element-copy-out-wide-2 Inv-loop μ-loop
+element-copy-out-wide-2 c = omega arith
 
-number-requires-2 : tie.Need-number-requires-2 Inv-loop μ-loop
-number-requires-2 c κs = tt
+wide-requires-2 : tie.Need-wide-requires-2 Inv-loop μ-loop
+wide-requires-2 c κs = tt
 
 returns-2 : tie.Need-returns-2 Inv-loop μ-loop
-returns-2 c = λ S E L. sought-twin _ _ _ _ _ (c .before .before .before .before .before .before .before .before .turned .result) (c .before .before .before .before .before .before .before .before .turned .ensures) (c .before .before .before .before .before .before .before .before .before .before .before .args .from - 1) (c .before .before .before .agree .result) (c .before .before .before .agree .ensures) S E _ _ _ (c .before .before .before .before .before .before .before .before .before .before .before .pre .0 .0) (c .before .before .if3 .taken) (c .before .before .before .before .before .before .before .if2 .taken) (omega arith) (omega arith) (c .number2 .ensures) L
+returns-2 c = λ S E L. sought-twin _ _ _ _ _ (c .before .before .before .before .before .before .before .before .turned .result) (c .before .before .before .before .before .before .before .before .turned .ensures) (c .before .before .before .before .before .before .before .before .before .before .before .args .from - 1) (c .before .before .before .agree .result) (c .before .before .before .agree .ensures) S E _ _ _ (c .before .before .before .before .before .before .before .before .before .before .before .pre .0 .0) (c .before .before .if3 .taken) (c .before .before .before .before .before .before .before .if2 .taken) (omega arith) (omega arith) (c .wide2 .ensures) L
 
 loop-holds : tie.Need-loop-holds Inv-loop μ-loop
 loop-holds c = (omega arith, λ k h l. absurd (omega arith))
@@ -109,9 +109,9 @@ seek-spec =
     Inv-loop
     μ-loop
     add-if1
-    mul-number
-    element-copy-out-number
-    number-requires
+    mul-wide
+    element-copy-out-wide
+    wide-requires
     returns
     element-copy-out-turned
     turned-requires
@@ -122,9 +122,9 @@ seek-spec =
     mul-agree-2
     element-copy-out-agree-3
     agree-requires
-    mul-number-2
-    element-copy-out-number-2
-    number-requires-2
+    mul-wide-2
+    element-copy-out-wide-2
+    wide-requires-2
     returns-2
     loop-holds
     element-copy-out-agree-4

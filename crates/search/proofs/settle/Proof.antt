@@ -34,37 +34,37 @@ loop-less c = omega arith
 loop-again : tie.Need-loop-again Inv-partner μ-partner Inv-loop μ-loop
 loop-again c = settling-skip (c .before .before .before .before .args .nodes) (c .before .before .before .before .args .actions .now) (c .before .before .before .before .args .scopes .now) (c .before .before .before .before .args .sides .now) (c .before .before .before .before .args .ends .now) (c .before .before .before .loop .i) (c .before .before .before .loop .i - 1) _ (omega arith) (c .before .before .before .loop .inv) (c .if1 .taken)
 
-mul-number : tie.Need-mul-number Inv-partner μ-partner Inv-loop μ-loop
-mul-number c = omega (arith, c .before .before .before .loop .inv .left, rows-few (c .before .before .before .before .pre .0 .0) (c .before .before .before .before .args .nodes) (c .before .before .before .before .args .actions .now) (c .before .before .before .before .args .scopes .now) (c .before .before .before .before .args .sides .now) (c .before .before .before .before .args .ends .now) (c .before .before .before .before .pre .0 .1))
+mul-wide : tie.Need-mul-wide Inv-partner μ-partner Inv-loop μ-loop
+mul-wide c = omega (arith, c .before .before .before .loop .inv .left, rows-few (c .before .before .before .before .pre .0 .0) (c .before .before .before .before .args .nodes) (c .before .before .before .before .args .actions .now) (c .before .before .before .before .args .scopes .now) (c .before .before .before .before .args .sides .now) (c .before .before .before .before .args .ends .now) (c .before .before .before .before .pre .0 .1))
 
-element-copy-out-number : tie.Need-element-copy-out-number Inv-partner μ-partner Inv-loop μ-loop
-element-copy-out-number c = omega (arith, c .before .before .before .loop .inv .left, rows-few (c .before .before .before .before .pre .0 .0) (c .before .before .before .before .args .nodes) (c .before .before .before .before .args .actions .now) (c .before .before .before .before .args .scopes .now) (c .before .before .before .before .args .sides .now) (c .before .before .before .before .args .ends .now) (c .before .before .before .before .pre .0 .1), c .before .before .before .before .pre .1 .twin-room)
+element-copy-out-wide : tie.Need-element-copy-out-wide Inv-partner μ-partner Inv-loop μ-loop
+element-copy-out-wide c = omega (arith, c .before .before .before .loop .inv .left, rows-few (c .before .before .before .before .pre .0 .0) (c .before .before .before .before .args .nodes) (c .before .before .before .before .args .actions .now) (c .before .before .before .before .args .scopes .now) (c .before .before .before .before .args .sides .now) (c .before .before .before .before .args .ends .now) (c .before .before .before .before .pre .0 .1), c .before .before .before .before .pre .1 .twin-room)
 
-number-requires : tie.Need-number-requires Inv-partner μ-partner Inv-loop μ-loop
-number-requires c κs = tt
+wide-requires : tie.Need-wide-requires Inv-partner μ-partner Inv-loop μ-loop
+wide-requires c κs = tt
 
-mul-number-2 : tie.Need-mul-number-2 Inv-partner μ-partner Inv-loop μ-loop
-mul-number-2 c = omega (arith, c .before .before .before .before .before .loop .inv .left, rows-few (c .before .before .before .before .before .before .pre .0 .0) (c .before .before .before .before .before .before .args .nodes) (c .before .before .before .before .before .before .args .actions .now) (c .before .before .before .before .before .before .args .scopes .now) (c .before .before .before .before .before .before .args .sides .now) (c .before .before .before .before .before .before .args .ends .now) (c .before .before .before .before .before .before .pre .0 .1))
+mul-wide-2 : tie.Need-mul-wide-2 Inv-partner μ-partner Inv-loop μ-loop
+mul-wide-2 c = omega (arith, c .before .before .before .before .before .loop .inv .left, rows-few (c .before .before .before .before .before .before .pre .0 .0) (c .before .before .before .before .before .before .args .nodes) (c .before .before .before .before .before .before .args .actions .now) (c .before .before .before .before .before .before .args .scopes .now) (c .before .before .before .before .before .before .args .sides .now) (c .before .before .before .before .before .before .args .ends .now) (c .before .before .before .before .before .before .pre .0 .1))
 
-element-copy-out-number-2 :
-    tie.Need-element-copy-out-number-2 Inv-partner μ-partner Inv-loop μ-loop
-element-copy-out-number-2 c = omega (arith, c .before .before .before .before .before .loop .inv .left, rows-few (c .before .before .before .before .before .before .pre .0 .0) (c .before .before .before .before .before .before .args .nodes) (c .before .before .before .before .before .before .args .actions .now) (c .before .before .before .before .before .before .args .scopes .now) (c .before .before .before .before .before .before .args .sides .now) (c .before .before .before .before .before .before .args .ends .now) (c .before .before .before .before .before .before .pre .0 .1), c .before .before .before .before .before .before .pre .0 .1 .side-room)
+element-copy-out-wide-2 :
+    tie.Need-element-copy-out-wide-2 Inv-partner μ-partner Inv-loop μ-loop
+element-copy-out-wide-2 c = omega (arith, c .before .before .before .before .before .loop .inv .left, rows-few (c .before .before .before .before .before .before .pre .0 .0) (c .before .before .before .before .before .before .args .nodes) (c .before .before .before .before .before .before .args .actions .now) (c .before .before .before .before .before .before .args .scopes .now) (c .before .before .before .before .before .before .args .sides .now) (c .before .before .before .before .before .before .args .ends .now) (c .before .before .before .before .before .before .pre .0 .1), c .before .before .before .before .before .before .pre .0 .1 .side-room)
 
-number-requires-2 : tie.Need-number-requires-2 Inv-partner μ-partner Inv-loop μ-loop
-number-requires-2 c κs = tt
+wide-requires-2 : tie.Need-wide-requires-2 Inv-partner μ-partner Inv-loop μ-loop
+wide-requires-2 c κs = tt
 
-mul-number-3 : tie.Need-mul-number-3 Inv-partner μ-partner Inv-loop μ-loop
-mul-number-3 c = omega (arith, c .before .before .before .before .before .before .before .loop .inv .left, rows-few (c .before .before .before .before .before .before .before .before .pre .0 .0) (c .before .before .before .before .before .before .before .before .args .nodes) (c .before .before .before .before .before .before .before .before .args .actions .now) (c .before .before .before .before .before .before .before .before .args .scopes .now) (c .before .before .before .before .before .before .before .before .args .sides .now) (c .before .before .before .before .before .before .before .before .args .ends .now) (c .before .before .before .before .before .before .before .before .pre .0 .1))
+mul-wide-3 : tie.Need-mul-wide-3 Inv-partner μ-partner Inv-loop μ-loop
+mul-wide-3 c = omega (arith, c .before .before .before .before .before .before .before .loop .inv .left, rows-few (c .before .before .before .before .before .before .before .before .pre .0 .0) (c .before .before .before .before .before .before .before .before .args .nodes) (c .before .before .before .before .before .before .before .before .args .actions .now) (c .before .before .before .before .before .before .before .before .args .scopes .now) (c .before .before .before .before .before .before .before .before .args .sides .now) (c .before .before .before .before .before .before .before .before .args .ends .now) (c .before .before .before .before .before .before .before .before .pre .0 .1))
 
-element-copy-out-number-3 :
-    tie.Need-element-copy-out-number-3 Inv-partner μ-partner Inv-loop μ-loop
-element-copy-out-number-3 c = omega (arith, c .before .before .before .before .before .before .before .loop .inv .left, rows-few (c .before .before .before .before .before .before .before .before .pre .0 .0) (c .before .before .before .before .before .before .before .before .args .nodes) (c .before .before .before .before .before .before .before .before .args .actions .now) (c .before .before .before .before .before .before .before .before .args .scopes .now) (c .before .before .before .before .before .before .before .before .args .sides .now) (c .before .before .before .before .before .before .before .before .args .ends .now) (c .before .before .before .before .before .before .before .before .pre .0 .1), c .before .before .before .before .before .before .before .loop .inv .room)
+element-copy-out-wide-3 :
+    tie.Need-element-copy-out-wide-3 Inv-partner μ-partner Inv-loop μ-loop
+element-copy-out-wide-3 c = omega (arith, c .before .before .before .before .before .before .before .loop .inv .left, rows-few (c .before .before .before .before .before .before .before .before .pre .0 .0) (c .before .before .before .before .before .before .before .before .args .nodes) (c .before .before .before .before .before .before .before .before .args .actions .now) (c .before .before .before .before .before .before .before .before .args .scopes .now) (c .before .before .before .before .before .before .before .before .args .sides .now) (c .before .before .before .before .before .before .before .before .args .ends .now) (c .before .before .before .before .before .before .before .before .pre .0 .1), c .before .before .before .before .before .before .before .loop .inv .room)
 
-number-requires-3 : tie.Need-number-requires-3 Inv-partner μ-partner Inv-loop μ-loop
-number-requires-3 c κs = tt
+wide-requires-3 : tie.Need-wide-requires-3 Inv-partner μ-partner Inv-loop μ-loop
+wide-requires-3 c κs = tt
 
 partner-holds : tie.Need-partner-holds Inv-partner μ-partner Inv-loop μ-loop
-partner-holds c = meeting-start (c .before .before .before .before .before .before .before .before .before .before .args .nodes) (c .before .before .before .before .before .before .before .before .before .before .args .actions .now) (c .before .before .before .before .before .before .before .before .before .before .args .scopes .now) (c .before .before .before .before .before .before .before .before .before .before .args .sides .now) (c .before .before .before .before .before .before .before .before .before .before .args .ends .now) (c .before .before .before .before .before .before .before .before .before .loop .i - 1) (c .number3 .result) (c .before .before .number2 .result) (rows-few (c .before .before .before .before .before .before .before .before .before .before .pre .0 .0) (c .before .before .before .before .before .before .before .before .before .before .args .nodes) (c .before .before .before .before .before .before .before .before .before .before .args .actions .now) (c .before .before .before .before .before .before .before .before .before .before .args .scopes .now) (c .before .before .before .before .before .before .before .before .before .before .args .sides .now) (c .before .before .before .before .before .before .before .before .before .before .args .ends .now) (c .before .before .before .before .before .before .before .before .before .before .pre .0 .1)) (rows-low (c .before .before .before .before .before .before .before .before .before .before .pre .0 .0) (c .before .before .before .before .before .before .before .before .before .before .args .nodes) (c .before .before .before .before .before .before .before .before .before .before .args .actions .now) (c .before .before .before .before .before .before .before .before .before .before .args .scopes .now) (c .before .before .before .before .before .before .before .before .before .before .args .sides .now) (c .before .before .before .before .before .before .before .before .before .before .args .ends .now) (c .before .before .before .before .before .before .before .before .before .before .pre .0 .1)) (rows-sides (c .before .before .before .before .before .before .before .before .before .before .pre .0 .0) (c .before .before .before .before .before .before .before .before .before .before .args .nodes) (c .before .before .before .before .before .before .before .before .before .before .args .actions .now) (c .before .before .before .before .before .before .before .before .before .before .args .scopes .now) (c .before .before .before .before .before .before .before .before .before .before .args .sides .now) (c .before .before .before .before .before .before .before .before .before .before .args .ends .now) (c .before .before .before .before .before .before .before .before .before .before .pre .0 .1)) (omega (arith, c .before .before .before .before .before .before .before .before .before .loop .inv .left)) (rw (c .number3 .ensures) (c .before .before .before .before .before .before .before .before .before .loop .inv .rest (c .before .before .before .before .before .before .before .before .before .loop .i - 1) (omega arith) (omega (arith, c .before .before .before .before .before .before .before .before .before .loop .inv .left), c .before .before .before .before .before .before .if1 .left))) (c .before .before .number2 .ensures)
+partner-holds c = meeting-start (c .before .before .before .before .before .before .before .before .before .before .args .nodes) (c .before .before .before .before .before .before .before .before .before .before .args .actions .now) (c .before .before .before .before .before .before .before .before .before .before .args .scopes .now) (c .before .before .before .before .before .before .before .before .before .before .args .sides .now) (c .before .before .before .before .before .before .before .before .before .before .args .ends .now) (c .before .before .before .before .before .before .before .before .before .loop .i - 1) (c .wide3 .result) (c .before .before .wide2 .result) (rows-few (c .before .before .before .before .before .before .before .before .before .before .pre .0 .0) (c .before .before .before .before .before .before .before .before .before .before .args .nodes) (c .before .before .before .before .before .before .before .before .before .before .args .actions .now) (c .before .before .before .before .before .before .before .before .before .before .args .scopes .now) (c .before .before .before .before .before .before .before .before .before .before .args .sides .now) (c .before .before .before .before .before .before .before .before .before .before .args .ends .now) (c .before .before .before .before .before .before .before .before .before .before .pre .0 .1)) (rows-low (c .before .before .before .before .before .before .before .before .before .before .pre .0 .0) (c .before .before .before .before .before .before .before .before .before .before .args .nodes) (c .before .before .before .before .before .before .before .before .before .before .args .actions .now) (c .before .before .before .before .before .before .before .before .before .before .args .scopes .now) (c .before .before .before .before .before .before .before .before .before .before .args .sides .now) (c .before .before .before .before .before .before .before .before .before .before .args .ends .now) (c .before .before .before .before .before .before .before .before .before .before .pre .0 .1)) (rows-sides (c .before .before .before .before .before .before .before .before .before .before .pre .0 .0) (c .before .before .before .before .before .before .before .before .before .before .args .nodes) (c .before .before .before .before .before .before .before .before .before .before .args .actions .now) (c .before .before .before .before .before .before .before .before .before .before .args .scopes .now) (c .before .before .before .before .before .before .before .before .before .before .args .sides .now) (c .before .before .before .before .before .before .before .before .before .before .args .ends .now) (c .before .before .before .before .before .before .before .before .before .before .pre .0 .1)) (omega (arith, c .before .before .before .before .before .before .before .before .before .loop .inv .left)) (rw (c .wide3 .ensures) (c .before .before .before .before .before .before .before .before .before .loop .inv .rest (c .before .before .before .before .before .before .before .before .before .loop .i - 1) (omega arith) (omega (arith, c .before .before .before .before .before .before .before .before .before .loop .inv .left), c .before .before .before .before .before .before .if1 .left))) (c .before .before .wide2 .ensures)
 
 climb-requires : tie.Need-climb-requires Inv-partner μ-partner Inv-loop μ-loop
 climb-requires c κs = (omega (arith, c .before .partner .inv .above .0, c .before .before .before .before .before .before .before .before .before .before .before .loop .inv .left), rows-few (c .before .before .before .before .before .before .before .before .before .before .before .before .pre .0 .0) (c .before .before .before .before .before .before .before .before .before .before .before .before .args .nodes) (c .before .before .before .before .before .before .before .before .before .before .before .before .args .actions .now) (c .before .before .before .before .before .before .before .before .before .before .before .before .args .scopes .now) (c .before .before .before .before .before .before .before .before .before .before .before .before .args .sides .now) (c .before .before .before .before .before .before .before .before .before .before .before .before .args .ends .now) (c .before .before .before .before .before .before .before .before .before .before .before .before .pre .0 .1), rows-low (c .before .before .before .before .before .before .before .before .before .before .before .before .pre .0 .0) (c .before .before .before .before .before .before .before .before .before .before .before .before .args .nodes) (c .before .before .before .before .before .before .before .before .before .before .before .before .args .actions .now) (c .before .before .before .before .before .before .before .before .before .before .before .before .args .scopes .now) (c .before .before .before .before .before .before .before .before .before .before .before .before .args .sides .now) (c .before .before .before .before .before .before .before .before .before .before .before .before .args .ends .now) (c .before .before .before .before .before .before .before .before .before .before .before .before .pre .0 .1), c .before .before .before .before .before .before .before .before .before .before .before .before .pre .0 .1 .side-room, c .before .before .before .before .before .before .before .before .before .before .before .before .pre .0 .1 .end-room)
@@ -72,47 +72,47 @@ climb-requires c κs = (omega (arith, c .before .partner .inv .above .0, c .befo
 is-clear-requires : tie.Need-is-clear-requires Inv-partner μ-partner Inv-loop μ-loop
 is-clear-requires c κs = (omega (arith, c .climb .ensures .low, c .before .before .partner .inv .above .0, c .before .before .before .before .before .before .before .before .before .before .before .before .loop .inv .left, rows-few (c .before .before .before .before .before .before .before .before .before .before .before .before .before .pre .0 .0) (c .before .before .before .before .before .before .before .before .before .before .before .before .before .args .nodes) (c .before .before .before .before .before .before .before .before .before .before .before .before .before .args .actions .now) (c .before .before .before .before .before .before .before .before .before .before .before .before .before .args .scopes .now) (c .before .before .before .before .before .before .before .before .before .before .before .before .before .args .sides .now) (c .before .before .before .before .before .before .before .before .before .before .before .before .before .args .ends .now) (c .before .before .before .before .before .before .before .before .before .before .before .before .before .pre .0 .1)), c .before .before .before .before .before .before .before .before .before .before .before .before .before .pre .0 .1 .end-room, c .climb .ensures .reaches)
 
-mul-number-4 : tie.Need-mul-number-4 Inv-partner μ-partner Inv-loop μ-loop
-mul-number-4 c = omega (arith, c .before .before .climb .ensures .low, c .before .before .before .before .partner .inv .above .0, c .before .before .before .before .before .before .before .before .before .before .before .before .before .before .loop .inv .left, rows-few (c .before .before .before .before .before .before .before .before .before .before .before .before .before .before .before .pre .0 .0) (c .before .before .before .before .before .before .before .before .before .before .before .before .before .before .before .args .nodes) (c .before .before .before .before .before .before .before .before .before .before .before .before .before .before .before .args .actions .now) (c .before .before .before .before .before .before .before .before .before .before .before .before .before .before .before .args .scopes .now) (c .before .before .before .before .before .before .before .before .before .before .before .before .before .before .before .args .sides .now) (c .before .before .before .before .before .before .before .before .before .before .before .before .before .before .before .args .ends .now) (c .before .before .before .before .before .before .before .before .before .before .before .before .before .before .before .pre .0 .1))
+mul-wide-4 : tie.Need-mul-wide-4 Inv-partner μ-partner Inv-loop μ-loop
+mul-wide-4 c = omega (arith, c .before .before .climb .ensures .low, c .before .before .before .before .partner .inv .above .0, c .before .before .before .before .before .before .before .before .before .before .before .before .before .before .loop .inv .left, rows-few (c .before .before .before .before .before .before .before .before .before .before .before .before .before .before .before .pre .0 .0) (c .before .before .before .before .before .before .before .before .before .before .before .before .before .before .before .args .nodes) (c .before .before .before .before .before .before .before .before .before .before .before .before .before .before .before .args .actions .now) (c .before .before .before .before .before .before .before .before .before .before .before .before .before .before .before .args .scopes .now) (c .before .before .before .before .before .before .before .before .before .before .before .before .before .before .before .args .sides .now) (c .before .before .before .before .before .before .before .before .before .before .before .before .before .before .before .args .ends .now) (c .before .before .before .before .before .before .before .before .before .before .before .before .before .before .before .pre .0 .1))
 
-element-copy-out-number-4 :
-    tie.Need-element-copy-out-number-4 Inv-partner μ-partner Inv-loop μ-loop
-element-copy-out-number-4 c = omega (arith, c .before .before .climb .ensures .low, c .before .before .before .before .partner .inv .above .0, c .before .before .before .before .before .before .before .before .before .before .before .before .before .before .loop .inv .left, rows-few (c .before .before .before .before .before .before .before .before .before .before .before .before .before .before .before .pre .0 .0) (c .before .before .before .before .before .before .before .before .before .before .before .before .before .before .before .args .nodes) (c .before .before .before .before .before .before .before .before .before .before .before .before .before .before .before .args .actions .now) (c .before .before .before .before .before .before .before .before .before .before .before .before .before .before .before .args .scopes .now) (c .before .before .before .before .before .before .before .before .before .before .before .before .before .before .before .args .sides .now) (c .before .before .before .before .before .before .before .before .before .before .before .before .before .before .before .args .ends .now) (c .before .before .before .before .before .before .before .before .before .before .before .before .before .before .before .pre .0 .1), c .before .before .before .before .before .before .before .before .before .before .before .before .before .before .before .pre .0 .1 .end-room)
+element-copy-out-wide-4 :
+    tie.Need-element-copy-out-wide-4 Inv-partner μ-partner Inv-loop μ-loop
+element-copy-out-wide-4 c = omega (arith, c .before .before .climb .ensures .low, c .before .before .before .before .partner .inv .above .0, c .before .before .before .before .before .before .before .before .before .before .before .before .before .before .loop .inv .left, rows-few (c .before .before .before .before .before .before .before .before .before .before .before .before .before .before .before .pre .0 .0) (c .before .before .before .before .before .before .before .before .before .before .before .before .before .before .before .args .nodes) (c .before .before .before .before .before .before .before .before .before .before .before .before .before .before .before .args .actions .now) (c .before .before .before .before .before .before .before .before .before .before .before .before .before .before .before .args .scopes .now) (c .before .before .before .before .before .before .before .before .before .before .before .before .before .before .before .args .sides .now) (c .before .before .before .before .before .before .before .before .before .before .before .before .before .before .before .args .ends .now) (c .before .before .before .before .before .before .before .before .before .before .before .before .before .before .before .pre .0 .1), c .before .before .before .before .before .before .before .before .before .before .before .before .before .before .before .pre .0 .1 .end-room)
 
-number-requires-4 : tie.Need-number-requires-4 Inv-partner μ-partner Inv-loop μ-loop
-number-requires-4 c κs = tt
+wide-requires-4 : tie.Need-wide-requires-4 Inv-partner μ-partner Inv-loop μ-loop
+wide-requires-4 c κs = tt
 
-mul-number-5 : tie.Need-mul-number-5 Inv-partner μ-partner Inv-loop μ-loop
-mul-number-5 c = omega (arith, c .if3 .taken, c .before .number4 .ensures, c .before .before .before .before .is-clear .ensures .beyond (c .before .before .before .if2 .left) .1, c .before .before .before .before .before .before .partner-test .taken, rows-few (c .before .before .before .before .before .before .before .before .before .before .before .before .before .before .before .before .before .before .pre .0 .0) (c .before .before .before .before .before .before .before .before .before .before .before .before .before .before .before .before .before .before .args .nodes) (c .before .before .before .before .before .before .before .before .before .before .before .before .before .before .before .before .before .before .args .actions .now) (c .before .before .before .before .before .before .before .before .before .before .before .before .before .before .before .before .before .before .args .scopes .now) (c .before .before .before .before .before .before .before .before .before .before .before .before .before .before .before .before .before .before .args .sides .now) (c .before .before .before .before .before .before .before .before .before .before .before .before .before .before .before .before .before .before .args .ends .now) (c .before .before .before .before .before .before .before .before .before .before .before .before .before .before .before .before .before .before .pre .0 .1), c .before .before .before .before .before .before .before .before .before .before .before .before .before .before .before .before .before .loop .inv .room)
+mul-wide-5 : tie.Need-mul-wide-5 Inv-partner μ-partner Inv-loop μ-loop
+mul-wide-5 c = omega (arith, c .if3 .taken, c .before .wide4 .ensures, c .before .before .before .before .is-clear .ensures .beyond (c .before .before .before .if2 .left) .1, c .before .before .before .before .before .before .partner-test .taken, rows-few (c .before .before .before .before .before .before .before .before .before .before .before .before .before .before .before .before .before .before .pre .0 .0) (c .before .before .before .before .before .before .before .before .before .before .before .before .before .before .before .before .before .before .args .nodes) (c .before .before .before .before .before .before .before .before .before .before .before .before .before .before .before .before .before .before .args .actions .now) (c .before .before .before .before .before .before .before .before .before .before .before .before .before .before .before .before .before .before .args .scopes .now) (c .before .before .before .before .before .before .before .before .before .before .before .before .before .before .before .before .before .before .args .sides .now) (c .before .before .before .before .before .before .before .before .before .before .before .before .before .before .before .before .before .before .args .ends .now) (c .before .before .before .before .before .before .before .before .before .before .before .before .before .before .before .before .before .before .pre .0 .1), c .before .before .before .before .before .before .before .before .before .before .before .before .before .before .before .before .before .loop .inv .room)
 
-element-copy-out-number-5 :
-    tie.Need-element-copy-out-number-5 Inv-partner μ-partner Inv-loop μ-loop
-element-copy-out-number-5 c = omega (arith, c .if3 .taken, c .before .number4 .ensures, c .before .before .before .before .is-clear .ensures .beyond (c .before .before .before .if2 .left) .1, c .before .before .before .before .before .before .partner-test .taken, rows-few (c .before .before .before .before .before .before .before .before .before .before .before .before .before .before .before .before .before .before .pre .0 .0) (c .before .before .before .before .before .before .before .before .before .before .before .before .before .before .before .before .before .before .args .nodes) (c .before .before .before .before .before .before .before .before .before .before .before .before .before .before .before .before .before .before .args .actions .now) (c .before .before .before .before .before .before .before .before .before .before .before .before .before .before .before .before .before .before .args .scopes .now) (c .before .before .before .before .before .before .before .before .before .before .before .before .before .before .before .before .before .before .args .sides .now) (c .before .before .before .before .before .before .before .before .before .before .before .before .before .before .before .before .before .before .args .ends .now) (c .before .before .before .before .before .before .before .before .before .before .before .before .before .before .before .before .before .before .pre .0 .1), c .before .before .before .before .before .before .before .before .before .before .before .before .before .before .before .before .before .loop .inv .room)
+element-copy-out-wide-5 :
+    tie.Need-element-copy-out-wide-5 Inv-partner μ-partner Inv-loop μ-loop
+element-copy-out-wide-5 c = omega (arith, c .if3 .taken, c .before .wide4 .ensures, c .before .before .before .before .is-clear .ensures .beyond (c .before .before .before .if2 .left) .1, c .before .before .before .before .before .before .partner-test .taken, rows-few (c .before .before .before .before .before .before .before .before .before .before .before .before .before .before .before .before .before .before .pre .0 .0) (c .before .before .before .before .before .before .before .before .before .before .before .before .before .before .before .before .before .before .args .nodes) (c .before .before .before .before .before .before .before .before .before .before .before .before .before .before .before .before .before .before .args .actions .now) (c .before .before .before .before .before .before .before .before .before .before .before .before .before .before .before .before .before .before .args .scopes .now) (c .before .before .before .before .before .before .before .before .before .before .before .before .before .before .before .before .before .before .args .sides .now) (c .before .before .before .before .before .before .before .before .before .before .before .before .before .before .before .before .before .before .args .ends .now) (c .before .before .before .before .before .before .before .before .before .before .before .before .before .before .before .before .before .before .pre .0 .1), c .before .before .before .before .before .before .before .before .before .before .before .before .before .before .before .before .before .loop .inv .room)
 
-number-requires-5 : tie.Need-number-requires-5 Inv-partner μ-partner Inv-loop μ-loop
-number-requires-5 c κs = tt
+wide-requires-5 : tie.Need-wide-requires-5 Inv-partner μ-partner Inv-loop μ-loop
+wide-requires-5 c κs = tt
 
 partner-less : tie.Need-partner-less Inv-partner μ-partner Inv-loop μ-loop
 partner-less c = omega (arith, c .if4 .taken, c .before .before .before .before .before .before .before .before .before .partner-test .taken)
 
 partner-again : tie.Need-partner-again Inv-partner μ-partner Inv-loop μ-loop
-partner-again c = meeting-leap (c .before .before .before .before .before .before .before .before .before .before .before .before .before .before .before .before .before .before .before .before .before .args .nodes) (c .before .before .before .before .before .before .before .before .before .before .before .before .before .before .before .before .before .before .before .before .before .args .actions .now) (c .before .before .before .before .before .before .before .before .before .before .before .before .before .before .before .before .before .before .before .before .before .args .scopes .now) (c .before .before .before .before .before .before .before .before .before .before .before .before .before .before .before .before .before .before .before .before .before .args .sides .now) (c .before .before .before .before .before .before .before .before .before .before .before .before .before .before .before .before .before .before .before .before .before .args .ends .now) (c .before .before .before .before .before .before .before .before .before .before .before .before .before .before .before .before .before .before .before .before .before .args .twins .now) (c .before .before .before .before .before .before .before .before .before .before .before .before .before .before .before .before .before .before .before .before .loop .i - 1) (c .before .before .before .before .before .before .before .before .before .before .partner .j) (c .before .before .before .before .before .before .before .before .before .before .partner .side) (c .before .before .before .before .before .before .before .before .climb .result) (c .before .before .before .before .before .before .before .is-clear .result) (rows-few (c .before .before .before .before .before .before .before .before .before .before .before .before .before .before .before .before .before .before .before .before .before .pre .0 .0) (c .before .before .before .before .before .before .before .before .before .before .before .before .before .before .before .before .before .before .before .before .before .args .nodes) (c .before .before .before .before .before .before .before .before .before .before .before .before .before .before .before .before .before .before .before .before .before .args .actions .now) (c .before .before .before .before .before .before .before .before .before .before .before .before .before .before .before .before .before .before .before .before .before .args .scopes .now) (c .before .before .before .before .before .before .before .before .before .before .before .before .before .before .before .before .before .before .before .before .before .args .sides .now) (c .before .before .before .before .before .before .before .before .before .before .before .before .before .before .before .before .before .before .before .before .before .args .ends .now) (c .before .before .before .before .before .before .before .before .before .before .before .before .before .before .before .before .before .before .before .before .before .pre .0 .1)) (rows-scopes (c .before .before .before .before .before .before .before .before .before .before .before .before .before .before .before .before .before .before .before .before .before .pre .0 .0) (c .before .before .before .before .before .before .before .before .before .before .before .before .before .before .before .before .before .before .before .before .before .args .nodes) (c .before .before .before .before .before .before .before .before .before .before .before .before .before .before .before .before .before .before .before .before .before .args .actions .now) (c .before .before .before .before .before .before .before .before .before .before .before .before .before .before .before .before .before .before .before .before .before .args .scopes .now) (c .before .before .before .before .before .before .before .before .before .before .before .before .before .before .before .before .before .before .before .before .before .args .sides .now) (c .before .before .before .before .before .before .before .before .before .before .before .before .before .before .before .before .before .before .before .before .before .args .ends .now) (c .before .before .before .before .before .before .before .before .before .before .before .before .before .before .before .before .before .before .before .before .before .pre .0 .1)) (omega (arith, c .before .before .before .before .before .before .before .before .before .before .before .before .before .before .before .before .before .before .before .before .loop .inv .left), c .before .before .before .before .before .before .before .before .before .before .before .before .before .before .before .before .before .if1 .left) (c .before .before .before .before .before .before .before .before .before .before .before .before .before .before .before .before .before .before .before .before .before .pre .1 .twin) (rows-sides (c .before .before .before .before .before .before .before .before .before .before .before .before .before .before .before .before .before .before .before .before .before .pre .0 .0) (c .before .before .before .before .before .before .before .before .before .before .before .before .before .before .before .before .before .before .before .before .before .args .nodes) (c .before .before .before .before .before .before .before .before .before .before .before .before .before .before .before .before .before .before .before .before .before .args .actions .now) (c .before .before .before .before .before .before .before .before .before .before .before .before .before .before .before .before .before .before .before .before .before .args .scopes .now) (c .before .before .before .before .before .before .before .before .before .before .before .before .before .before .before .before .before .before .before .before .before .args .sides .now) (c .before .before .before .before .before .before .before .before .before .before .before .before .before .before .before .before .before .before .before .before .before .args .ends .now) (c .before .before .before .before .before .before .before .before .before .before .before .before .before .before .before .before .before .before .before .before .before .pre .0 .1)) (c .before .before .before .before .before .before .before .before .before .before .partner .inv) (c .before .before .before .before .before .before .before .before .before .partner-test .taken) (c .before .before .before .before .before .before .before .before .climb .ensures) (c .before .before .before .before .before .before .before .is-clear .ensures) (c .before .before .before .before .before .before .if2 .left) (c .before .before .before .before .before .before .before .before .before .before .before .before .before .before .before .number .result) (c .before .number5 .result) (c .before .before .before .before .before .before .before .before .before .before .before .before .before .before .before .number .ensures) (omega (arith, c .before .before .before .if3 .taken, c .before .before .before .before .number4 .ensures)) (c .if4 .taken) (λ a. rw (c .before .number5 .ensures) (c .before .before .before .before .before .before .before .before .before .before .before .before .before .before .before .before .before .before .before .before .loop .inv .done (c .before .before .before .before .before .before .before .before .before .before .before .before .before .before .before .number .result) (omega (arith, c .before .before .before .before .before .before .before .before .before .before .before .before .before .before .before .number .ensures, c .before .before .before .before .before .before .before .before .before .before .before .before .before .before .before .before .before .before .before .before .before .pre .1 .twin (c .before .before .before .before .before .before .before .before .before .before .before .before .before .before .before .before .before .before .before .before .loop .i - 1) (omega (arith, c .before .before .before .before .before .before .before .before .before .before .before .before .before .before .before .before .before .before .before .before .loop .inv .left), c .before .before .before .before .before .before .before .before .before .before .before .before .before .before .before .before .before .if1 .left) .after)) a))
+partner-again c = meeting-leap (c .before .before .before .before .before .before .before .before .before .before .before .before .before .before .before .before .before .before .before .before .before .args .nodes) (c .before .before .before .before .before .before .before .before .before .before .before .before .before .before .before .before .before .before .before .before .before .args .actions .now) (c .before .before .before .before .before .before .before .before .before .before .before .before .before .before .before .before .before .before .before .before .before .args .scopes .now) (c .before .before .before .before .before .before .before .before .before .before .before .before .before .before .before .before .before .before .before .before .before .args .sides .now) (c .before .before .before .before .before .before .before .before .before .before .before .before .before .before .before .before .before .before .before .before .before .args .ends .now) (c .before .before .before .before .before .before .before .before .before .before .before .before .before .before .before .before .before .before .before .before .before .args .twins .now) (c .before .before .before .before .before .before .before .before .before .before .before .before .before .before .before .before .before .before .before .before .loop .i - 1) (c .before .before .before .before .before .before .before .before .before .before .partner .j) (c .before .before .before .before .before .before .before .before .before .before .partner .side) (c .before .before .before .before .before .before .before .before .climb .result) (c .before .before .before .before .before .before .before .is-clear .result) (rows-few (c .before .before .before .before .before .before .before .before .before .before .before .before .before .before .before .before .before .before .before .before .before .pre .0 .0) (c .before .before .before .before .before .before .before .before .before .before .before .before .before .before .before .before .before .before .before .before .before .args .nodes) (c .before .before .before .before .before .before .before .before .before .before .before .before .before .before .before .before .before .before .before .before .before .args .actions .now) (c .before .before .before .before .before .before .before .before .before .before .before .before .before .before .before .before .before .before .before .before .before .args .scopes .now) (c .before .before .before .before .before .before .before .before .before .before .before .before .before .before .before .before .before .before .before .before .before .args .sides .now) (c .before .before .before .before .before .before .before .before .before .before .before .before .before .before .before .before .before .before .before .before .before .args .ends .now) (c .before .before .before .before .before .before .before .before .before .before .before .before .before .before .before .before .before .before .before .before .before .pre .0 .1)) (rows-scopes (c .before .before .before .before .before .before .before .before .before .before .before .before .before .before .before .before .before .before .before .before .before .pre .0 .0) (c .before .before .before .before .before .before .before .before .before .before .before .before .before .before .before .before .before .before .before .before .before .args .nodes) (c .before .before .before .before .before .before .before .before .before .before .before .before .before .before .before .before .before .before .before .before .before .args .actions .now) (c .before .before .before .before .before .before .before .before .before .before .before .before .before .before .before .before .before .before .before .before .before .args .scopes .now) (c .before .before .before .before .before .before .before .before .before .before .before .before .before .before .before .before .before .before .before .before .before .args .sides .now) (c .before .before .before .before .before .before .before .before .before .before .before .before .before .before .before .before .before .before .before .before .before .args .ends .now) (c .before .before .before .before .before .before .before .before .before .before .before .before .before .before .before .before .before .before .before .before .before .pre .0 .1)) (omega (arith, c .before .before .before .before .before .before .before .before .before .before .before .before .before .before .before .before .before .before .before .before .loop .inv .left), c .before .before .before .before .before .before .before .before .before .before .before .before .before .before .before .before .before .if1 .left) (c .before .before .before .before .before .before .before .before .before .before .before .before .before .before .before .before .before .before .before .before .before .pre .1 .twin) (rows-sides (c .before .before .before .before .before .before .before .before .before .before .before .before .before .before .before .before .before .before .before .before .before .pre .0 .0) (c .before .before .before .before .before .before .before .before .before .before .before .before .before .before .before .before .before .before .before .before .before .args .nodes) (c .before .before .before .before .before .before .before .before .before .before .before .before .before .before .before .before .before .before .before .before .before .args .actions .now) (c .before .before .before .before .before .before .before .before .before .before .before .before .before .before .before .before .before .before .before .before .before .args .scopes .now) (c .before .before .before .before .before .before .before .before .before .before .before .before .before .before .before .before .before .before .before .before .before .args .sides .now) (c .before .before .before .before .before .before .before .before .before .before .before .before .before .before .before .before .before .before .before .before .before .args .ends .now) (c .before .before .before .before .before .before .before .before .before .before .before .before .before .before .before .before .before .before .before .before .before .pre .0 .1)) (c .before .before .before .before .before .before .before .before .before .before .partner .inv) (c .before .before .before .before .before .before .before .before .before .partner-test .taken) (c .before .before .before .before .before .before .before .before .climb .ensures) (c .before .before .before .before .before .before .before .is-clear .ensures) (c .before .before .before .before .before .before .if2 .left) (c .before .before .before .before .before .before .before .before .before .before .before .before .before .before .before .wide .result) (c .before .wide5 .result) (c .before .before .before .before .before .before .before .before .before .before .before .before .before .before .before .wide .ensures) (omega (arith, c .before .before .before .if3 .taken, c .before .before .before .before .wide4 .ensures)) (c .if4 .taken) (λ a. rw (c .before .wide5 .ensures) (c .before .before .before .before .before .before .before .before .before .before .before .before .before .before .before .before .before .before .before .before .loop .inv .done (c .before .before .before .before .before .before .before .before .before .before .before .before .before .before .before .wide .result) (omega (arith, c .before .before .before .before .before .before .before .before .before .before .before .before .before .before .before .wide .ensures, c .before .before .before .before .before .before .before .before .before .before .before .before .before .before .before .before .before .before .before .before .before .pre .1 .twin (c .before .before .before .before .before .before .before .before .before .before .before .before .before .before .before .before .before .before .before .before .loop .i - 1) (omega (arith, c .before .before .before .before .before .before .before .before .before .before .before .before .before .before .before .before .before .before .before .before .loop .inv .left), c .before .before .before .before .before .before .before .before .before .before .before .before .before .before .before .before .before .if1 .left) .after)) a))
 
-mul-number-6 : tie.Need-mul-number-6 Inv-partner μ-partner Inv-loop μ-loop
-mul-number-6 c = omega (arith, c .before .before .before .before .before .before .partner-test .taken, rows-few (c .before .before .before .before .before .before .before .before .before .before .before .before .before .before .before .before .before .before .pre .0 .0) (c .before .before .before .before .before .before .before .before .before .before .before .before .before .before .before .before .before .before .args .nodes) (c .before .before .before .before .before .before .before .before .before .before .before .before .before .before .before .before .before .before .args .actions .now) (c .before .before .before .before .before .before .before .before .before .before .before .before .before .before .before .before .before .before .args .scopes .now) (c .before .before .before .before .before .before .before .before .before .before .before .before .before .before .before .before .before .before .args .sides .now) (c .before .before .before .before .before .before .before .before .before .before .before .before .before .before .before .before .before .before .args .ends .now) (c .before .before .before .before .before .before .before .before .before .before .before .before .before .before .before .before .before .before .pre .0 .1), c .before .before .before .before .before .before .before .before .before .before .before .before .before .before .before .before .before .before .pre .1 .twin-room)
+mul-wide-6 : tie.Need-mul-wide-6 Inv-partner μ-partner Inv-loop μ-loop
+mul-wide-6 c = omega (arith, c .before .before .before .before .before .before .partner-test .taken, rows-few (c .before .before .before .before .before .before .before .before .before .before .before .before .before .before .before .before .before .before .pre .0 .0) (c .before .before .before .before .before .before .before .before .before .before .before .before .before .before .before .before .before .before .args .nodes) (c .before .before .before .before .before .before .before .before .before .before .before .before .before .before .before .before .before .before .args .actions .now) (c .before .before .before .before .before .before .before .before .before .before .before .before .before .before .before .before .before .before .args .scopes .now) (c .before .before .before .before .before .before .before .before .before .before .before .before .before .before .before .before .before .before .args .sides .now) (c .before .before .before .before .before .before .before .before .before .before .before .before .before .before .before .before .before .before .args .ends .now) (c .before .before .before .before .before .before .before .before .before .before .before .before .before .before .before .before .before .before .pre .0 .1), c .before .before .before .before .before .before .before .before .before .before .before .before .before .before .before .before .before .before .pre .1 .twin-room)
 
-element-copy-out-number-6 :
-    tie.Need-element-copy-out-number-6 Inv-partner μ-partner Inv-loop μ-loop
-element-copy-out-number-6 c = omega (arith, c .before .before .before .before .before .before .partner-test .taken, rows-few (c .before .before .before .before .before .before .before .before .before .before .before .before .before .before .before .before .before .before .pre .0 .0) (c .before .before .before .before .before .before .before .before .before .before .before .before .before .before .before .before .before .before .args .nodes) (c .before .before .before .before .before .before .before .before .before .before .before .before .before .before .before .before .before .before .args .actions .now) (c .before .before .before .before .before .before .before .before .before .before .before .before .before .before .before .before .before .before .args .scopes .now) (c .before .before .before .before .before .before .before .before .before .before .before .before .before .before .before .before .before .before .args .sides .now) (c .before .before .before .before .before .before .before .before .before .before .before .before .before .before .before .before .before .before .args .ends .now) (c .before .before .before .before .before .before .before .before .before .before .before .before .before .before .before .before .before .before .pre .0 .1), c .before .before .before .before .before .before .before .before .before .before .before .before .before .before .before .before .before .before .pre .1 .twin-room)
+element-copy-out-wide-6 :
+    tie.Need-element-copy-out-wide-6 Inv-partner μ-partner Inv-loop μ-loop
+element-copy-out-wide-6 c = omega (arith, c .before .before .before .before .before .before .partner-test .taken, rows-few (c .before .before .before .before .before .before .before .before .before .before .before .before .before .before .before .before .before .before .pre .0 .0) (c .before .before .before .before .before .before .before .before .before .before .before .before .before .before .before .before .before .before .args .nodes) (c .before .before .before .before .before .before .before .before .before .before .before .before .before .before .before .before .before .before .args .actions .now) (c .before .before .before .before .before .before .before .before .before .before .before .before .before .before .before .before .before .before .args .scopes .now) (c .before .before .before .before .before .before .before .before .before .before .before .before .before .before .before .before .before .before .args .sides .now) (c .before .before .before .before .before .before .before .before .before .before .before .before .before .before .before .before .before .before .args .ends .now) (c .before .before .before .before .before .before .before .before .before .before .before .before .before .before .before .before .before .before .pre .0 .1), c .before .before .before .before .before .before .before .before .before .before .before .before .before .before .before .before .before .before .pre .1 .twin-room)
 
-number-requires-6 : tie.Need-number-requires-6 Inv-partner μ-partner Inv-loop μ-loop
-number-requires-6 c κs = tt
+wide-requires-6 : tie.Need-wide-requires-6 Inv-partner μ-partner Inv-loop μ-loop
+wide-requires-6 c κs = tt
 
 partner-less-2 : tie.Need-partner-less-2 Inv-partner μ-partner Inv-loop μ-loop
-partner-less-2 c = omega (arith, meeting-on (c .before .before .before .before .before .before .before .before .before .before .before .before .before .before .before .before .before .before .before .before .args .nodes) (c .before .before .before .before .before .before .before .before .before .before .before .before .before .before .before .before .before .before .before .before .args .actions .now) (c .before .before .before .before .before .before .before .before .before .before .before .before .before .before .before .before .before .before .before .before .args .scopes .now) (c .before .before .before .before .before .before .before .before .before .before .before .before .before .before .before .before .before .before .before .before .args .sides .now) (c .before .before .before .before .before .before .before .before .before .before .before .before .before .before .before .before .before .before .before .before .args .ends .now) (c .before .before .before .before .before .before .before .before .before .before .before .before .before .before .before .before .before .before .before .before .args .twins .now) (c .before .before .before .before .before .before .before .before .before .before .before .before .before .before .before .before .before .before .before .loop .i - 1) (c .before .before .before .before .before .before .before .before .before .partner .j) (c .before .before .before .before .before .before .before .before .before .partner .side) (c .before .before .before .before .before .before .before .climb .result) (c .before .before .before .before .before .before .is-clear .result) (rows-few (c .before .before .before .before .before .before .before .before .before .before .before .before .before .before .before .before .before .before .before .before .pre .0 .0) (c .before .before .before .before .before .before .before .before .before .before .before .before .before .before .before .before .before .before .before .before .args .nodes) (c .before .before .before .before .before .before .before .before .before .before .before .before .before .before .before .before .before .before .before .before .args .actions .now) (c .before .before .before .before .before .before .before .before .before .before .before .before .before .before .before .before .before .before .before .before .args .scopes .now) (c .before .before .before .before .before .before .before .before .before .before .before .before .before .before .before .before .before .before .before .before .args .sides .now) (c .before .before .before .before .before .before .before .before .before .before .before .before .before .before .before .before .before .before .before .before .args .ends .now) (c .before .before .before .before .before .before .before .before .before .before .before .before .before .before .before .before .before .before .before .before .pre .0 .1)) (rows-scopes (c .before .before .before .before .before .before .before .before .before .before .before .before .before .before .before .before .before .before .before .before .pre .0 .0) (c .before .before .before .before .before .before .before .before .before .before .before .before .before .before .before .before .before .before .before .before .args .nodes) (c .before .before .before .before .before .before .before .before .before .before .before .before .before .before .before .before .before .before .before .before .args .actions .now) (c .before .before .before .before .before .before .before .before .before .before .before .before .before .before .before .before .before .before .before .before .args .scopes .now) (c .before .before .before .before .before .before .before .before .before .before .before .before .before .before .before .before .before .before .before .before .args .sides .now) (c .before .before .before .before .before .before .before .before .before .before .before .before .before .before .before .before .before .before .before .before .args .ends .now) (c .before .before .before .before .before .before .before .before .before .before .before .before .before .before .before .before .before .before .before .before .pre .0 .1)) (omega (arith, c .before .before .before .before .before .before .before .before .before .before .before .before .before .before .before .before .before .before .before .loop .inv .left), c .before .before .before .before .before .before .before .before .before .before .before .before .before .before .before .before .if1 .left) (c .before .before .before .before .before .before .before .before .before .before .before .before .before .before .before .before .before .before .before .before .pre .1 .twin) (rows-sides (c .before .before .before .before .before .before .before .before .before .before .before .before .before .before .before .before .before .before .before .before .pre .0 .0) (c .before .before .before .before .before .before .before .before .before .before .before .before .before .before .before .before .before .before .before .before .args .nodes) (c .before .before .before .before .before .before .before .before .before .before .before .before .before .before .before .before .before .before .before .before .args .actions .now) (c .before .before .before .before .before .before .before .before .before .before .before .before .before .before .before .before .before .before .before .before .args .scopes .now) (c .before .before .before .before .before .before .before .before .before .before .before .before .before .before .before .before .before .before .before .before .args .sides .now) (c .before .before .before .before .before .before .before .before .before .before .before .before .before .before .before .before .before .before .before .before .args .ends .now) (c .before .before .before .before .before .before .before .before .before .before .before .before .before .before .before .before .before .before .before .before .pre .0 .1)) (c .before .before .before .before .before .before .before .before .before .partner .inv) (c .before .before .before .before .before .before .before .before .partner-test .taken) (c .before .before .before .before .before .before .before .climb .ensures) (c .before .before .before .before .before .before .is-clear .ensures) (c .number6 .result) (c .number6 .ensures), c .before .before .before .before .before .before .before .before .partner-test .taken)
+partner-less-2 c = omega (arith, meeting-on (c .before .before .before .before .before .before .before .before .before .before .before .before .before .before .before .before .before .before .before .before .args .nodes) (c .before .before .before .before .before .before .before .before .before .before .before .before .before .before .before .before .before .before .before .before .args .actions .now) (c .before .before .before .before .before .before .before .before .before .before .before .before .before .before .before .before .before .before .before .before .args .scopes .now) (c .before .before .before .before .before .before .before .before .before .before .before .before .before .before .before .before .before .before .before .before .args .sides .now) (c .before .before .before .before .before .before .before .before .before .before .before .before .before .before .before .before .before .before .before .before .args .ends .now) (c .before .before .before .before .before .before .before .before .before .before .before .before .before .before .before .before .before .before .before .before .args .twins .now) (c .before .before .before .before .before .before .before .before .before .before .before .before .before .before .before .before .before .before .before .loop .i - 1) (c .before .before .before .before .before .before .before .before .before .partner .j) (c .before .before .before .before .before .before .before .before .before .partner .side) (c .before .before .before .before .before .before .before .climb .result) (c .before .before .before .before .before .before .is-clear .result) (rows-few (c .before .before .before .before .before .before .before .before .before .before .before .before .before .before .before .before .before .before .before .before .pre .0 .0) (c .before .before .before .before .before .before .before .before .before .before .before .before .before .before .before .before .before .before .before .before .args .nodes) (c .before .before .before .before .before .before .before .before .before .before .before .before .before .before .before .before .before .before .before .before .args .actions .now) (c .before .before .before .before .before .before .before .before .before .before .before .before .before .before .before .before .before .before .before .before .args .scopes .now) (c .before .before .before .before .before .before .before .before .before .before .before .before .before .before .before .before .before .before .before .before .args .sides .now) (c .before .before .before .before .before .before .before .before .before .before .before .before .before .before .before .before .before .before .before .before .args .ends .now) (c .before .before .before .before .before .before .before .before .before .before .before .before .before .before .before .before .before .before .before .before .pre .0 .1)) (rows-scopes (c .before .before .before .before .before .before .before .before .before .before .before .before .before .before .before .before .before .before .before .before .pre .0 .0) (c .before .before .before .before .before .before .before .before .before .before .before .before .before .before .before .before .before .before .before .before .args .nodes) (c .before .before .before .before .before .before .before .before .before .before .before .before .before .before .before .before .before .before .before .before .args .actions .now) (c .before .before .before .before .before .before .before .before .before .before .before .before .before .before .before .before .before .before .before .before .args .scopes .now) (c .before .before .before .before .before .before .before .before .before .before .before .before .before .before .before .before .before .before .before .before .args .sides .now) (c .before .before .before .before .before .before .before .before .before .before .before .before .before .before .before .before .before .before .before .before .args .ends .now) (c .before .before .before .before .before .before .before .before .before .before .before .before .before .before .before .before .before .before .before .before .pre .0 .1)) (omega (arith, c .before .before .before .before .before .before .before .before .before .before .before .before .before .before .before .before .before .before .before .loop .inv .left), c .before .before .before .before .before .before .before .before .before .before .before .before .before .before .before .before .if1 .left) (c .before .before .before .before .before .before .before .before .before .before .before .before .before .before .before .before .before .before .before .before .pre .1 .twin) (rows-sides (c .before .before .before .before .before .before .before .before .before .before .before .before .before .before .before .before .before .before .before .before .pre .0 .0) (c .before .before .before .before .before .before .before .before .before .before .before .before .before .before .before .before .before .before .before .before .args .nodes) (c .before .before .before .before .before .before .before .before .before .before .before .before .before .before .before .before .before .before .before .before .args .actions .now) (c .before .before .before .before .before .before .before .before .before .before .before .before .before .before .before .before .before .before .before .before .args .scopes .now) (c .before .before .before .before .before .before .before .before .before .before .before .before .before .before .before .before .before .before .before .before .args .sides .now) (c .before .before .before .before .before .before .before .before .before .before .before .before .before .before .before .before .before .before .before .before .args .ends .now) (c .before .before .before .before .before .before .before .before .before .before .before .before .before .before .before .before .before .before .before .before .pre .0 .1)) (c .before .before .before .before .before .before .before .before .before .partner .inv) (c .before .before .before .before .before .before .before .before .partner-test .taken) (c .before .before .before .before .before .before .before .climb .ensures) (c .before .before .before .before .before .before .is-clear .ensures) (c .wide6 .result) (c .wide6 .ensures), c .before .before .before .before .before .before .before .before .partner-test .taken)
 
 partner-again-2 : tie.Need-partner-again-2 Inv-partner μ-partner Inv-loop μ-loop
-partner-again-2 c = meeting-twin (c .before .before .before .before .before .before .before .before .before .before .before .before .before .before .before .before .before .before .before .before .args .nodes) (c .before .before .before .before .before .before .before .before .before .before .before .before .before .before .before .before .before .before .before .before .args .actions .now) (c .before .before .before .before .before .before .before .before .before .before .before .before .before .before .before .before .before .before .before .before .args .scopes .now) (c .before .before .before .before .before .before .before .before .before .before .before .before .before .before .before .before .before .before .before .before .args .sides .now) (c .before .before .before .before .before .before .before .before .before .before .before .before .before .before .before .before .before .before .before .before .args .ends .now) (c .before .before .before .before .before .before .before .before .before .before .before .before .before .before .before .before .before .before .before .before .args .twins .now) (c .before .before .before .before .before .before .before .before .before .before .before .before .before .before .before .before .before .before .before .loop .i - 1) (c .before .before .before .before .before .before .before .before .before .partner .j) (c .before .before .before .before .before .before .before .before .before .partner .side) (c .before .before .before .before .before .before .before .climb .result) (c .before .before .before .before .before .before .is-clear .result) (rows-few (c .before .before .before .before .before .before .before .before .before .before .before .before .before .before .before .before .before .before .before .before .pre .0 .0) (c .before .before .before .before .before .before .before .before .before .before .before .before .before .before .before .before .before .before .before .before .args .nodes) (c .before .before .before .before .before .before .before .before .before .before .before .before .before .before .before .before .before .before .before .before .args .actions .now) (c .before .before .before .before .before .before .before .before .before .before .before .before .before .before .before .before .before .before .before .before .args .scopes .now) (c .before .before .before .before .before .before .before .before .before .before .before .before .before .before .before .before .before .before .before .before .args .sides .now) (c .before .before .before .before .before .before .before .before .before .before .before .before .before .before .before .before .before .before .before .before .args .ends .now) (c .before .before .before .before .before .before .before .before .before .before .before .before .before .before .before .before .before .before .before .before .pre .0 .1)) (rows-scopes (c .before .before .before .before .before .before .before .before .before .before .before .before .before .before .before .before .before .before .before .before .pre .0 .0) (c .before .before .before .before .before .before .before .before .before .before .before .before .before .before .before .before .before .before .before .before .args .nodes) (c .before .before .before .before .before .before .before .before .before .before .before .before .before .before .before .before .before .before .before .before .args .actions .now) (c .before .before .before .before .before .before .before .before .before .before .before .before .before .before .before .before .before .before .before .before .args .scopes .now) (c .before .before .before .before .before .before .before .before .before .before .before .before .before .before .before .before .before .before .before .before .args .sides .now) (c .before .before .before .before .before .before .before .before .before .before .before .before .before .before .before .before .before .before .before .before .args .ends .now) (c .before .before .before .before .before .before .before .before .before .before .before .before .before .before .before .before .before .before .before .before .pre .0 .1)) (omega (arith, c .before .before .before .before .before .before .before .before .before .before .before .before .before .before .before .before .before .before .before .loop .inv .left), c .before .before .before .before .before .before .before .before .before .before .before .before .before .before .before .before .if1 .left) (c .before .before .before .before .before .before .before .before .before .before .before .before .before .before .before .before .before .before .before .before .pre .1 .twin) (rows-sides (c .before .before .before .before .before .before .before .before .before .before .before .before .before .before .before .before .before .before .before .before .pre .0 .0) (c .before .before .before .before .before .before .before .before .before .before .before .before .before .before .before .before .before .before .before .before .args .nodes) (c .before .before .before .before .before .before .before .before .before .before .before .before .before .before .before .before .before .before .before .before .args .actions .now) (c .before .before .before .before .before .before .before .before .before .before .before .before .before .before .before .before .before .before .before .before .args .scopes .now) (c .before .before .before .before .before .before .before .before .before .before .before .before .before .before .before .before .before .before .before .before .args .sides .now) (c .before .before .before .before .before .before .before .before .before .before .before .before .before .before .before .before .before .before .before .before .args .ends .now) (c .before .before .before .before .before .before .before .before .before .before .before .before .before .before .before .before .before .before .before .before .pre .0 .1)) (c .before .before .before .before .before .before .before .before .before .partner .inv) (c .before .before .before .before .before .before .before .before .partner-test .taken) (c .before .before .before .before .before .before .before .climb .ensures) (c .before .before .before .before .before .before .is-clear .ensures) (c .before .before .before .before .before .if2 .left) (c .number6 .result) (c .number6 .ensures)
+partner-again-2 c = meeting-twin (c .before .before .before .before .before .before .before .before .before .before .before .before .before .before .before .before .before .before .before .before .args .nodes) (c .before .before .before .before .before .before .before .before .before .before .before .before .before .before .before .before .before .before .before .before .args .actions .now) (c .before .before .before .before .before .before .before .before .before .before .before .before .before .before .before .before .before .before .before .before .args .scopes .now) (c .before .before .before .before .before .before .before .before .before .before .before .before .before .before .before .before .before .before .before .before .args .sides .now) (c .before .before .before .before .before .before .before .before .before .before .before .before .before .before .before .before .before .before .before .before .args .ends .now) (c .before .before .before .before .before .before .before .before .before .before .before .before .before .before .before .before .before .before .before .before .args .twins .now) (c .before .before .before .before .before .before .before .before .before .before .before .before .before .before .before .before .before .before .before .loop .i - 1) (c .before .before .before .before .before .before .before .before .before .partner .j) (c .before .before .before .before .before .before .before .before .before .partner .side) (c .before .before .before .before .before .before .before .climb .result) (c .before .before .before .before .before .before .is-clear .result) (rows-few (c .before .before .before .before .before .before .before .before .before .before .before .before .before .before .before .before .before .before .before .before .pre .0 .0) (c .before .before .before .before .before .before .before .before .before .before .before .before .before .before .before .before .before .before .before .before .args .nodes) (c .before .before .before .before .before .before .before .before .before .before .before .before .before .before .before .before .before .before .before .before .args .actions .now) (c .before .before .before .before .before .before .before .before .before .before .before .before .before .before .before .before .before .before .before .before .args .scopes .now) (c .before .before .before .before .before .before .before .before .before .before .before .before .before .before .before .before .before .before .before .before .args .sides .now) (c .before .before .before .before .before .before .before .before .before .before .before .before .before .before .before .before .before .before .before .before .args .ends .now) (c .before .before .before .before .before .before .before .before .before .before .before .before .before .before .before .before .before .before .before .before .pre .0 .1)) (rows-scopes (c .before .before .before .before .before .before .before .before .before .before .before .before .before .before .before .before .before .before .before .before .pre .0 .0) (c .before .before .before .before .before .before .before .before .before .before .before .before .before .before .before .before .before .before .before .before .args .nodes) (c .before .before .before .before .before .before .before .before .before .before .before .before .before .before .before .before .before .before .before .before .args .actions .now) (c .before .before .before .before .before .before .before .before .before .before .before .before .before .before .before .before .before .before .before .before .args .scopes .now) (c .before .before .before .before .before .before .before .before .before .before .before .before .before .before .before .before .before .before .before .before .args .sides .now) (c .before .before .before .before .before .before .before .before .before .before .before .before .before .before .before .before .before .before .before .before .args .ends .now) (c .before .before .before .before .before .before .before .before .before .before .before .before .before .before .before .before .before .before .before .before .pre .0 .1)) (omega (arith, c .before .before .before .before .before .before .before .before .before .before .before .before .before .before .before .before .before .before .before .loop .inv .left), c .before .before .before .before .before .before .before .before .before .before .before .before .before .before .before .before .if1 .left) (c .before .before .before .before .before .before .before .before .before .before .before .before .before .before .before .before .before .before .before .before .pre .1 .twin) (rows-sides (c .before .before .before .before .before .before .before .before .before .before .before .before .before .before .before .before .before .before .before .before .pre .0 .0) (c .before .before .before .before .before .before .before .before .before .before .before .before .before .before .before .before .before .before .before .before .args .nodes) (c .before .before .before .before .before .before .before .before .before .before .before .before .before .before .before .before .before .before .before .before .args .actions .now) (c .before .before .before .before .before .before .before .before .before .before .before .before .before .before .before .before .before .before .before .before .args .scopes .now) (c .before .before .before .before .before .before .before .before .before .before .before .before .before .before .before .before .before .before .before .before .args .sides .now) (c .before .before .before .before .before .before .before .before .before .before .before .before .before .before .before .before .before .before .before .before .args .ends .now) (c .before .before .before .before .before .before .before .before .before .before .before .before .before .before .before .before .before .before .before .before .pre .0 .1)) (c .before .before .before .before .before .before .before .before .before .partner .inv) (c .before .before .before .before .before .before .before .before .partner-test .taken) (c .before .before .before .before .before .before .before .climb .ensures) (c .before .before .before .before .before .before .is-clear .ensures) (c .before .before .before .before .before .if2 .left) (c .wide6 .result) (c .wide6 .ensures)
 
 cast-partners : tie.Need-cast-partners Inv-partner μ-partner Inv-loop μ-loop
 cast-partners c = record { fits = omega (arith, c .before .partner .inv .low) }
@@ -145,29 +145,29 @@ settle-spec =
     element-copy-out-if1
     loop-less
     loop-again
-    mul-number
-    element-copy-out-number
-    number-requires
-    mul-number-2
-    element-copy-out-number-2
-    number-requires-2
-    mul-number-3
-    element-copy-out-number-3
-    number-requires-3
+    mul-wide
+    element-copy-out-wide
+    wide-requires
+    mul-wide-2
+    element-copy-out-wide-2
+    wide-requires-2
+    mul-wide-3
+    element-copy-out-wide-3
+    wide-requires-3
     partner-holds
     climb-requires
     is-clear-requires
-    mul-number-4
-    element-copy-out-number-4
-    number-requires-4
-    mul-number-5
-    element-copy-out-number-5
-    number-requires-5
+    mul-wide-4
+    element-copy-out-wide-4
+    wide-requires-4
+    mul-wide-5
+    element-copy-out-wide-5
+    wide-requires-5
     partner-less
     partner-again
-    mul-number-6
-    element-copy-out-number-6
-    number-requires-6
+    mul-wide-6
+    element-copy-out-wide-6
+    wide-requires-6
     partner-less-2
     partner-again-2
     cast-partners

@@ -1,6 +1,7 @@
 -- `waiting` meets its contract: the reader decides whether there is a record to list.
 use Rattle.operations.specs.Ask.{WaitingList}
-use Rattle.keys.proofs.Reading.{bytes-of, was-refused, was-read}
+use Rattle.reader.proofs.Whole.{record-refused, slice-bytes}
+use Rattle.keys.proofs.Reading.{was-read}
 use borrow.Author.Needs.{needs}
 use Rattle.waiting.proofs.waiting.Statement.{statement}
 use Rattle.waiting.proofs.waiting.Tie as tie
@@ -15,10 +16,10 @@ enum-told : tie.Need-enum-told
 enum-told c = search needs
 
 list-waiting-requires : tie.Need-list-waiting-requires
-list-waiting-requires c κs = was-read (c .before .before .before .before .before .before .args .bytes .now) (c .before .before .before .read .result) (c .before .before .before .read .ensures) (bytes-of (c .before .before .before .before .before .before .args .bytes .now) (λ i. c .before .before .before .before .before .shared-slice-known .given i .fits)) _ (c .before .enum-told .given .1)
+list-waiting-requires c κs = was-read (c .before .before .before .before .before .before .args .bytes .now) (c .before .before .before .read .result) (c .before .before .before .read .ensures) (slice-bytes (c .before .before .before .before .before .before .args .bytes .now) (λ i. c .before .before .before .before .before .shared-slice-known .given i .fits)) _ (c .before .enum-told .given .1)
 
 returns : tie.Need-returns
-returns c = WaitingList.unreadable (was-refused (c .before .before .before .before .before .before .args .bytes .now) (c .before .before .before .read .result) (c .before .before .before .read .ensures) _ (c .before .c .given .1))
+returns c = WaitingList.unreadable (record-refused (c .before .before .before .before .before .before .args .bytes .now) _ (rw (c .before .c .given .1) at (c .before .before .before .read .ensures)))
 
 same-length : tie.Need-same-length
 same-length c = search needs
