@@ -5,7 +5,8 @@ use mathlib.Core.List.{List, [], _∷_}
 use Prim.Native.Nat.{ℕ, zero, suc, _<_}
 use native.Mathlib.Omega.{arith}
 use Rattle.ccsk.specs.Numbers.{In, distinct}
-use Rattle.ccsk.proofs.Lists.{in-left, in-right, in-either, without, without-append, without-same, without-other, without-none, distinct-without}
+use Rattle.ccsk.specs.Without.{without}
+use Rattle.ccsk.proofs.Lists.{in-left, in-right, in-either, without-append, without-same, without-other, without-none, distinct-without}
 use Rattle.ccsk.specs.Term.{Term, nil, pre, cho, par, res, Std, Has, done, keys}
 use Rattle.ccsk.specs.Step.{Undo, Undo.top, Undo.prefix, Undo.choice₁, Undo.choice₂, Undo.par₁, Undo.par₂, Undo.synch, Undo.restrict}
 use Rattle.ccsk.proofs.Basic.{never, std-has}

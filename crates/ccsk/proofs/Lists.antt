@@ -10,6 +10,7 @@ use borrow.Author.Tests.{eq-eqb, ne-eqb}
 use lib.Dec.{eqb}
 use lib.ListN.{length}
 use Rattle.ccsk.specs.Numbers.{In, in?, new, distinct, LeastFree}
+use Rattle.ccsk.specs.Without.{skip, without}
 
 pub in-left : (m : ℕ) (x y : List ℕ) → In m x → In m (x ++ y)
 in-left m [] y i = absurd i
@@ -24,15 +25,6 @@ pub in-either : (m : ℕ) (x y : List ℕ) → In m (x ++ y) → In m x ⊎ In m
 in-either m [] y i = inr i
 in-either m (a ∷ x) y (inl e) = inl (inl e)
 in-either m (a ∷ x) y (inr i) = ⊎-elim (λ j. inl (inr j)) inr (in-either m x y i)
-
--- l without m
-abbrev pub skip : Bool → ℕ → List ℕ → List ℕ
-skip true a l = l
-skip false a l = a ∷ l
-
-unfoldable pub without : ℕ → List ℕ → List ℕ
-without m [] = []
-without m (a ∷ l) = skip (eqb m a) a (without m l)
 
 pub without-append : (m : ℕ) (x y : List ℕ) → without m (x ++ y) ≡ without m x ++ without m y
 unfolding without

@@ -10,8 +10,8 @@ use lib.Seq.{getD-drop, drop-drop, drop-append-seam}
 use Rattle.ccsk.specs.Term.{Term, Key, nil, pre, cho, par, res, keys, done}
 use Rattle.format.specs.Read.{keyOf}
 use Rattle.format.specs.Encode.{encode, high, low}
-pub use Rattle.format.specs.Kinds.{bodyLength, childCount}
-unfoldable pub use Rattle.format.specs.Flat.{encodes, keysOf, after, headKind, headKey, Due, keyAt}
+use Rattle.format.specs.Kinds.{bodyLength, childCount}
+use Rattle.format.specs.Flat.{encodes, keysOf, after, headKind, headKey, Due, keyAt}
 use Rattle.format.proofs.Round.{key-bytes}
 
 -- The first node of the terms that are due at a place: its kind, its end, what is due then, and its key.

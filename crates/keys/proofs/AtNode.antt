@@ -5,7 +5,7 @@ use Prim.Native.Nat.{ℕ, _+_}
 use borrow.Author.Tests.{eq-eqb, ne-eqb}
 use lib.ListN.{getD, set}
 use Rattle.format.specs.Read.{keyOf}
-use Rattle.format.proofs.Flat.{keyAt}
+use Rattle.format.specs.Flat.{keyAt}
 use Rattle.keys.specs.Gather.{clearedAt}
 
 pub key-of-prefix : (s : List ℕ) (at k : ℕ) → getD s at 0 ≡ 1 → k ≡ keyOf (getD s (at + 2) 0) (getD s (at + 3) 0) → k ≡ keyAt s at

@@ -10,7 +10,9 @@ use lib.ListN.{length, getD, set, take, drop, length-set, length-drop}
 use lib.Seq.{take-add, drop-drop, getD-drop, drop-set-add, drop-set-lt, take-set-le, take-all}
 use Rattle.ccsk.specs.Term.{Term, nil, pre, cho, par, res, blank}
 use Rattle.format.specs.Encode.{encode}
-use Rattle.format.proofs.Flat.{Due, encodes, after, bodyLength, keyAt, ends-within, none-due, all-due}
+use Rattle.format.specs.Flat.{encodes, after, Due, keyAt}
+use Rattle.format.specs.Kinds.{bodyLength}
+use Rattle.format.proofs.Flat.{ends-within, none-due, all-due}
 use Rattle.keys.specs.Gather.{RecordOf, Readable, clearedAt, Cleared}
 
 -- the blank forms of several terms

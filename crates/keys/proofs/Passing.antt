@@ -6,7 +6,9 @@ use native.Mathlib.Omega.{arith}
 use lib.ListN.{length, getD}
 use Rattle.ccsk.specs.Numbers.{distinct}
 use Rattle.ccsk.specs.Term.{Term, Key, keys, done}
-use Rattle.format.proofs.Flat.{Due, keysOf, after, bodyLength, keyAt, keys-head, key-here, ends-within, due-after, none-due, all-due, keys-one, keys-none}
+use Rattle.format.specs.Flat.{keysOf, after, Due, keyAt}
+use Rattle.format.specs.Kinds.{bodyLength}
+use Rattle.format.proofs.Flat.{keys-head, key-here, ends-within, due-after, none-due, all-due, keys-one, keys-none}
 use Rattle.keys.specs.Gather.{RecordOf, Readable, Holds, Marked, Scanned}
 
 -- Up to the place `at` of the record s, the keys were marked in m, and n of them are different.

@@ -3,7 +3,7 @@ ghost use mathlib.Core.Path.{_≡_};
 ghost use mathlib.Core.List.{[]};
 ghost use Prim.Native.Nat.{_+_, _<_};
 ghost use lib.ListN.{length, getD};
-ghost use Rattle.format.proofs.Flat.{keyAt};
+ghost use Rattle.format.specs.Flat.{keyAt};
 ghost use Rattle.operations.specs.Ask.{KeyCount, FreeKey};
 ghost use Rattle.operations.specs.Change.{BlankForm};
 ghost use Rattle.keys.specs.Number.{refusal, value};

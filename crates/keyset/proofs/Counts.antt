@@ -8,7 +8,8 @@ use native.Mathlib.Decide.{ℕ-discrete}
 use native.Mathlib.Omega.{arith}
 use lib.ListN.{length, length-append}
 use Rattle.ccsk.specs.Numbers.{In, distinct}
-use Rattle.ccsk.proofs.Lists.{without, in-without, distinct-without, gone}
+use Rattle.ccsk.specs.Without.{without}
+use Rattle.ccsk.proofs.Lists.{in-without, distinct-without, gone}
 use Rattle.keyset.specs.Set.{member, tick, membersBelow}
 use Rattle.keyset.proofs.Steps.{true-false}
 

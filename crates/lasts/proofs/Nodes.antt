@@ -1,6 +1,6 @@
 -- At each node, what the places of one key tell of the move, from what they tell in its children; and so in every term.
 use mathlib.Core.Path.{_≡_, refl, _∙_}
-use mathlib.Core.Logic.{_⊎_, inl, inr, ⊎-elim}
+use mathlib.Core.Logic.{inl, inr, ⊎-elim}
 use mathlib.Core.List.{List, [], _∷_, _++_, append-nil}
 use mathlib.Core.Bool.{Bool, true, false, not}
 use Prim.Native.Nat.{ℕ, _+_, _<_, _≤_}

@@ -11,7 +11,7 @@ use Rattle.ccsk.specs.Term.{Label, Node}
 use Rattle.format.specs.Limits.{node-limit}
 use Rattle.paths.specs.Rows.{no-action, channel}
 use Rattle.links.specs.Classes.{class}
-use Rattle.links.specs.Links.{turn, Able, Scoped, Offers, Next, Linked}
+use Rattle.links.specs.Links.{turn, Able, Scoped, Next, Linked}
 use Rattle.links.proofs.Turns.{turn-byte}
 use Rattle.links.proofs.Classes.{class-tells}
 

@@ -7,7 +7,6 @@ use native.Mathlib.Decide.{decLt}
 use native.Mathlib.Omega.{arith}
 use borrow.Author.Tests.{lt-ltb, le-ltb}
 use Rattle.ccsk.specs.Term.{Term, Label, Co, size}
-use Rattle.format.specs.Limits.{node-limit}
 use Rattle.format.specs.Encode.{Fits}
 use Rattle.paths.specs.Rows.{no-action, channel, Indexed}
 use Rattle.paths.proofs.Channels.{channel-low, channel-high}

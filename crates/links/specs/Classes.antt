@@ -1,5 +1,4 @@
 -- Classes of prefixes, as numbers: two prefixes of a record that could step have the same class exactly if they have the same action and scope.
-use mathlib.Core.Path.{_≡_}
 use mathlib.Core.Bool.{cond}
 use Prim.Native.Nat.{ℕ, _+_, _*_, _/_}
 use lib.Dec.{eqb}

@@ -6,7 +6,7 @@ use native.Mathlib.Decide.{ℕ-discrete, decLt, decLe}
 use Rattle.ccsk.specs.Term.{Name, Label, Key, Node, labels, keys, size}
 use Rattle.ccsk.specs.Place.{shift, places}
 use Rattle.ccsk.proofs.Basic.{has?}
-use Rattle.ccsk.proofs.Lists.{without}
+use Rattle.ccsk.specs.Without.{without}
 use Rattle.ccsk.specs.Decide.{channel?, co?, on?}
 use Rattle.ccsk.proofs.Decide.{std?}
 use Rattle.ccsk.proofs.ForwardDec.{forward?, do-zero, do-pre, do-cho, do-par, do-res, below?, unshift, zero?}

@@ -4,10 +4,10 @@ use mathlib.Core.List.{List, [], _∷_}
 use Prim.Native.Nat.{ℕ, zero, suc}
 use native.Mathlib.Decide.{ℕ-discrete, decLt, decLe}
 use Rattle.ccsk.specs.Numbers.{in?, distinct}
+use Rattle.ccsk.specs.Without.{without}
 use Rattle.ccsk.specs.Term.{Label, Key, Node, labels, keys, size}
 use Rattle.ccsk.specs.Place.{shift, places}
 use Rattle.ccsk.proofs.Basic.{has?}
-use Rattle.ccsk.proofs.Lists.{without}
 use Rattle.ccsk.specs.Decide.{channel?, co?, on?}
 use Rattle.ccsk.proofs.Decide.{std?}
 use Rattle.ccsk.proofs.ForwardDec.{forward?, do-zero, do-pre, do-cho, do-par, do-res, below?, unshift, zero?}

@@ -1,5 +1,5 @@
 -- The parts of the search: the test of two actions, and going up by the row of sides.
-use mathlib.Core.Path.{_≡_, refl, sym}
+use mathlib.Core.Path.{_≡_, refl}
 use mathlib.Core.Logic.{_⊎_, inl, inr, ⊎-elim, _↔_}
 use mathlib.Core.List.{List}
 use mathlib.Core.Bool.{true, false, false≢true, true≢false}

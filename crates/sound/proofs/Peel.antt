@@ -8,8 +8,9 @@ use native.Mathlib.Decide.{ℕ-discrete}
 use native.Mathlib.Omega.{arith}
 use lib.ListN.{length}
 use Rattle.ccsk.specs.Numbers.{In}
+use Rattle.ccsk.specs.Without.{without}
 use Rattle.sound.specs.Sound.{Chain, one, more}
-use Rattle.ccsk.proofs.Lists.{without, in-without, gone, without-shorter}
+use Rattle.ccsk.proofs.Lists.{in-without, gone, without-shorter}
 
 -- a number of L to which R leads from m, and the rest of L; or none
 pub data Next (R : ℕ → ℕ → Type 0) (m : ℕ) (L : List ℕ) : Type 0 where

@@ -7,8 +7,9 @@ use Prim.Native.Nat.{ℕ, _<_}
 use native.Mathlib.Omega.{arith}
 use lib.ListN.{length}
 use Rattle.ccsk.specs.Numbers.{In, Lists}
+use Rattle.ccsk.specs.Without.{without}
 use Rattle.ccsk.specs.Term.{Term, Key, Has}
-use Rattle.ccsk.proofs.Lists.{without, in-without, gone}
+use Rattle.ccsk.proofs.Lists.{in-without, gone}
 use Rattle.format.specs.Read.{Reads}
 use Rattle.operations.specs.Ask.{WaitingList, Filled}
 use Rattle.operations.specs.Order.{WaitsFor}

@@ -7,10 +7,13 @@ use native.Mathlib.Decide.{ℕ-discrete}
 use native.Mathlib.Omega.{arith}
 use lib.ListN.{length, getD, length-append, length-drop}
 use Rattle.ccsk.specs.Numbers.{distinct}
+use Rattle.ccsk.specs.Without.{without}
 use Rattle.ccsk.specs.Term.{Term, Key, nil, pre, cho, par, res, keys, done}
-use Rattle.ccsk.proofs.Lists.{without, without-append, without-same, without-other}
+use Rattle.ccsk.proofs.Lists.{without-append, without-same, without-other}
 use Rattle.format.specs.Encode.{encode}
-use Rattle.format.proofs.Flat.{Due, encodes, keysOf, after, headKind, headKey, bodyLength, childCount, keyAt, keys-head, key-here, kind-here, ends-within, due-after, children-due, none-due, all-due, keys-one}
+use Rattle.format.specs.Flat.{encodes, keysOf, after, headKind, headKey, Due, keyAt}
+use Rattle.format.specs.Kinds.{bodyLength, childCount}
+use Rattle.format.proofs.Flat.{keys-head, key-here, kind-here, ends-within, due-after, children-due, none-due, all-due, keys-one}
 use Rattle.keys.specs.Gather.{RecordOf, Readable, Holds, Marked}
 use Rattle.waiting.specs.Below.{below, ToMark, DueAfter, MarkedBelow}
 use Rattle.waiting.proofs.Keys.{below-here, below-other}

@@ -11,7 +11,9 @@ use Rattle.ccsk.specs.Numbers.{In}
 use Rattle.ccsk.specs.Term.{Term, Key, keys, done}
 use Rattle.ccsk.proofs.Lists.{in-left, in-right, in-either}
 use Rattle.ccsk.proofs.Keys.{has-in, in-has}
-use Rattle.format.proofs.Flat.{Due, keysOf, after, bodyLength, keyAt, keys-head, key-here, due-after, none-due, all-due, keys-one, keys-none}
+use Rattle.format.specs.Flat.{keysOf, after, Due, keyAt}
+use Rattle.format.specs.Kinds.{bodyLength}
+use Rattle.format.proofs.Flat.{keys-head, key-here, due-after, none-due, all-due, keys-one, keys-none}
 use Rattle.keys.specs.Gather.{RecordOf, Readable}
 use Rattle.waiting.specs.Below.{Stands, MetBy}
 

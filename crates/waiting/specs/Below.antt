@@ -6,8 +6,8 @@ use mathlib.Core.Bool.{Bool, true, false, cond}
 use Prim.Native.Nat.{ℕ, _+_, _<_}
 use lib.Dec.{eqb}
 use Rattle.ccsk.specs.Numbers.{distinct}
+use Rattle.ccsk.specs.Without.{without}
 use Rattle.ccsk.specs.Term.{Term, Key, nil, pre, cho, par, res, Has, Fsh, keys}
-use Rattle.ccsk.proofs.Lists.{without}
 use Rattle.keys.specs.Gather.{RecordOf, Holds}
 
 -- whether the key stands in the record

@@ -1,5 +1,4 @@
 -- `link` meets its contract: the heads are the first nodes of their classes, and each node passed has its links.
-use borrow.Author.Needs.{needs}
 use native.Mathlib.Omega.{arith}
 use Prim.Native.Nat.{_-_}
 use Rattle.links.specs.Classes.{classes}

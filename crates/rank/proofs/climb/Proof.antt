@@ -1,5 +1,5 @@
 -- `climb` meets its contract: r is the rank of k, from `from` up to `to`.
-use mathlib.Core.Path.{_≡_, _∙_}
+use mathlib.Core.Path.{_≡_}
 use Prim.Native.Nat.{_≤_, _-_}
 use native.Mathlib.Omega.{arith}
 use Rattle.rank.specs.Rank.{rank}

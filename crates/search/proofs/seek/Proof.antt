@@ -1,6 +1,5 @@
 -- `seek` meets its contract: one law of Sought at each return.
 use native.Mathlib.Omega.{arith}
-use mathlib.Core.Path.{sym, _∙_}
 use Prim.Native.Nat.{_-_, _≤_}
 use Rattle.search.proofs.Sought.{NoneYet, sought-partner, sought-twin, sought-here, sought-more, sought-none}
 use Rattle.search.proofs.seek.Statement.{statement}
