@@ -3,8 +3,8 @@ ghost use Rattle.cursor.specs.At.{Opens, Shows, Goes, DueAt, Made};
 use reader::Count;
 use reader::DEPTH;
 use reader::Head;
-use reader::NO_RECORD;
 use reader::Node;
+use shared::NO_RECORD;
 
 // The limits of a record, as the cursor's numbers are held.
 const NODES: u16 = reader::NODES as u16;

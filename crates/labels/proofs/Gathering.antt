@@ -13,7 +13,9 @@ use Rattle.ccsk.specs.Term.{Term, Label, Key, nil, pre, cho, par, res, tick, la
 use Rattle.ccsk.proofs.Basic.{never}
 use Rattle.format.specs.Limits.{node-limit}
 use Rattle.format.specs.Encode.{encode}
-use Rattle.format.proofs.Flat.{Due, encodes, after, headKind, headKey, keyAt, bodyLength, key-here, kind-here, ends-within, due-after, none-due, all-due}
+use Rattle.format.specs.Kinds.{bodyLength}
+use Rattle.format.specs.Flat.{Due, encodes, after, headKind, headKey, keyAt}
+use Rattle.format.proofs.Flat.{key-here, kind-here, ends-within, due-after, none-due, all-due}
 use Rattle.operations.proofs.Readable.{reads-one}
 use Rattle.keys.specs.Gather.{RecordOf, Readable}
 use Rattle.labels.specs.Labels.{no-label, joined, gathered, labelsOf, Rising, Noted, Passes, Unlabelled, UndoLabels}

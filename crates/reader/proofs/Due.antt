@@ -7,7 +7,7 @@ use lib.ListN.{length, drop, getD, set, length-set, drop-of-length-le}
 use lib.Seq.{drop-cons}
 use Rattle.ccsk.specs.Term.{Term, pre, cho, par, res, size}
 use Rattle.format.specs.Limits.{node-limit, depth-limit}
-use Rattle.format.specs.Read.{Reading, Reading.refused, term, kindOf, keyOf, onward, read, finish, decode, Reads, Refuses}
+use Rattle.format.specs.Read.{Reading, Reading.refused, term, kindOf, keyOf, onward, read, finish, decode, Refuses}
 use Rattle.format.specs.Encode.{Bytes}
 use Rattle.format.proofs.Unique.{read-written}
 use Rattle.operations.specs.Ask.{ReadRecord, unreadable, done}

@@ -1,4 +1,4 @@
-// Reading a record (01, The record): one node at a place, the term that starts at a place, and the whole record.
+// Reading a record (01, The record): one node at a place, the node that is due, and the whole record.
 ghost use Prim.Native.Nat.{_<_, _≤_};
 ghost use mathlib.Core.Path.{_≡_};
 ghost use lib.ListN.{length};
@@ -6,6 +6,8 @@ ghost use Rattle.operations.specs.Ask.{ReadRecord};
 ghost use Rattle.reader.specs.Head.{body, childCount, Tables, Headed};
 ghost use Rattle.reader.specs.Walk.{Due};
 ghost use Rattle.reader.specs.Count.{refusal, nodes};
+use shared::NO_RECORD;
+use shared::OVER_LIMIT;
 
 // The limits of a record: nodes, and levels.
 pub const NODES: usize = 4096;
@@ -36,11 +38,6 @@ pub const CHILDREN: [usize; KINDS] = [0, 1, 2, 2, 1];
 pub const NO_ACTION: u8 = 128;
 
 pub const LAST_NAME: u8 = 127;
-
-// Refusals: the bytes are no record; over a limit.
-pub const NO_RECORD: u8 = 1;
-
-pub const OVER_LIMIT: u8 = 2;
 
 // A key, a node number and a name are three things, so that none is read as another.
 pub struct Key(pub u16);

@@ -1,6 +1,12 @@
 // The two operations that change a record by a step: forward and undo. Each plans on the bytes as they are, and then writes; a refusal writes nothing.
 use reader::Key;
 use reader::Node;
+use shared::KEY_ABSENT;
+use shared::KEY_STANDS;
+use shared::KEY_ZERO;
+use shared::NO_PLACES;
+use shared::NO_STEP;
+use shared::NO_UNDO;
 use shared::NOT_DONE;
 use shared::wide;
 use survey::pass::Whole;
@@ -13,20 +19,6 @@ ghost use Prim.Native.Nat.{_+_, _<_, _/_, _%_};
 ghost use lib.ListN.{length, set};
 ghost use Rattle.operations.specs.Change.{ForwardStep, UndoStep};
 ghost use Rattle.steps.specs.Plan.{refusal, label, planned, told, carried, Inside, settled};
-
-// Refusals (01, Operations and their refusals): the key is 0; p and q are no places; the key stands in the record; no such step;
-// the key stands nowhere; no such undo.
-pub const KEY_ZERO: u8 = 3;
-
-pub const NO_PLACES: u8 = 4;
-
-pub const KEY_STANDS: u8 = 5;
-
-pub const NO_STEP: u8 = 6;
-
-pub const KEY_ABSENT: u8 = 7;
-
-pub const NO_UNDO: u8 = 8;
 
 // The answer of a step: a refusal number, or the label of the step that was made.
 pub enum Moved {

@@ -2,12 +2,12 @@
 use mathlib.Core.Path.{_≡_, refl}
 use mathlib.Core.Logic.{inl, inr, _≢_}
 use mathlib.Core.Bool.{Bool, true, false}
-use Prim.Native.Nat.{ℕ, zero, suc, _+_, _-_, _<_, _≤_}
+use Prim.Native.Nat.{ℕ, zero, suc, _+_, _≤_}
 use native.Mathlib.Decide.{ℕ-discrete}
 use native.Mathlib.Omega.{arith}
 use borrow.Author.Tests.{eq-eqb, ne-eqb}
 use lib.Dec.{eqb}
-use Rattle.ccsk.specs.Term.{Co, On}
+use Rattle.ccsk.specs.Term.{On}
 use Rattle.moves.specs.Choose.{forward-choice}
 use Rattle.moves.specs.Move.{step, stuck, own, overPrefix, joinedIf, hiddenIf}
 use Rattle.shared.specs.Tells.{Tells}
