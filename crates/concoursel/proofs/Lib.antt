@@ -1,4 +1,5 @@
--- How answers are packed, what the walk answers, and that only one packed answer fits each entry.
+-- How answers are packed, what the walk answers, that only one packed answer fits each entry, and that a host can take a step's answer apart.
 pub mod Packs
 pub mod Nodes
 pub mod Once
+pub mod Fields
