@@ -20,6 +20,8 @@ ghost use mathlib.Core.Path.{_≡_};
 ghost use Prim.Native.Nat.{_≤_};
 ghost use lib.ListN.{length};
 ghost use Rattle.format.specs.Limits.{node-limit};
+ghost use Rattle.operations.specs.Ask.{ReadRecord};
+ghost use Rattle.reader.specs.Count.{refusal, nodes};
 ghost use Rattle.index.specs.Whole.{SomeRows};
 ghost use Rattle.search.specs.Scan.{Settled};
 
@@ -165,8 +167,11 @@ fn put_counts(space: &mut [u8], bytes: &[u8], nodes: usize) -> usize
     put(space, f, b"\n")
 }
 
-// All lines of a record, or its refusal. The record is indexed and linked once, and each step is asked for where the last one stood.
-pub fn list(bytes: &[u8]) {
+// Writes all lines of a record, or its refusal, and answers which: the refusal, or the number of nodes. The record is indexed and linked
+// once, and each step is asked for where the last one stood.
+pub fn list(bytes: &[u8]) -> Count
+    ensures { λ r. ⌜ ReadRecord (now (bytes .entry)) (refusal r) (nodes r) ⌝ }
+{
     let mut room = [0u8; SPACE];
     let space: &mut [u8] = &mut room;
     let mut actions = [NO_ACTION; NODES];
@@ -176,6 +181,7 @@ pub fn list(bytes: &[u8]) {
     match index(bytes, &mut actions, &mut scopes, &mut sides, &mut ends) {
         Count::Refused(c) => {
             list_refused(space, c);
+            Count::Refused(c)
         }
         Count::Nodes(n) => {
             let mut twins = [0u16; NODES];
@@ -196,6 +202,7 @@ pub fn list(bytes: &[u8]) {
             );
             let c = put_allowed(space, b, bytes);
             flush(space, c);
+            Count::Nodes(n)
         }
     }
 }

@@ -1,5 +1,7 @@
--- `list` is safe and ends: the rows that are filled and linked are those of the record.
-use Rattle.search.proofs.Answers.{index-filled}
+-- `list` answers what the record came to, by what indexing it answered; the rows that are filled and linked are those of the record.
+use mathlib.Core.Path.{sym, subst}
+use Rattle.operations.specs.Ask.{ReadRecord, unreadable, done}
+use Rattle.search.proofs.Answers.{index-refused, index-filled}
 use Rattle.search.proofs.Reached.{rows-few, rows-scopes}
 use borrow.Author.Needs.{needs}
 use Rattle.listing.proofs.lines.list.Statement.{statement}
@@ -39,10 +41,10 @@ flush-requires : tie.Need-flush-requires
 flush-requires c κs = search needs
 
 returns : tie.Need-returns
-returns c = search needs
+returns c = unreadable (index-refused (c .before .before .before .before .before .before .before .before .before .before .before .before .args .bytes .now) _ _ _ _ (c .before .before .before .before .before .index .result) (c .before .before .before .before .before .index .ensures) _ (c .before .before .before .c .given .1))
 
 returns-2 : tie.Need-returns-2
-returns-2 c = search needs
+returns-2 c = let f = index-filled (c .before .before .before .before .before .before .before .before .before .before .before .before .before .before .before .before .before .before .before .before .before .before .before .before .before .before .before .before .before .before .before .before .before .before .before .before .before .before .before .before .before .before .before .args .bytes .now) _ _ _ _ (c .before .before .before .before .before .before .before .before .before .before .before .before .before .before .before .before .before .before .before .before .before .before .before .before .before .before .before .before .before .before .before .before .before .before .before .before .index .result) (c .before .before .before .before .before .before .before .before .before .before .before .before .before .before .before .before .before .before .before .before .before .before .before .before .before .before .before .before .before .before .before .before .before .before .before .before .index .ensures) _ (c .before .before .before .before .before .before .before .before .before .before .before .before .before .before .before .before .before .before .before .before .before .before .before .before .before .before .before .before .before .before .before .before .before .before .n .given .1) in subst (ReadRecord (c .before .before .before .before .before .before .before .before .before .before .before .before .before .before .before .before .before .before .before .before .before .before .before .before .before .before .before .before .before .before .before .before .before .before .before .before .before .before .before .before .before .before .before .args .bytes .now) 0) (sym (f .2 .count)) (done (f .1))
 
 pub list-spec : {M : Type 1} → statement M
 list-spec =
