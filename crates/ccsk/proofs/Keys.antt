@@ -1,13 +1,14 @@
--- The list of keys: an undo takes exactly its key out of it, and one less is left.
+-- The list of keys: it is no longer than there are nodes, an undo takes exactly its key out of it, and one less is left.
 use mathlib.Core.Path.{_≡_, refl}
 use mathlib.Core.Logic.{inl, inr, ⊎-elim}
 use mathlib.Core.List.{List, [], _∷_}
-use Prim.Native.Nat.{ℕ, zero, suc, _<_}
+use Prim.Native.Nat.{ℕ, zero, suc, _<_, _≤_}
 use native.Mathlib.Omega.{arith}
+use lib.ListN.{length, length-append}
 use Rattle.ccsk.specs.Numbers.{In, distinct}
 use Rattle.ccsk.specs.Without.{without}
 use Rattle.ccsk.proofs.Lists.{in-left, in-right, in-either, without-append, without-same, without-other, without-none, distinct-without}
-use Rattle.ccsk.specs.Term.{Term, nil, pre, cho, par, res, Std, Has, done, keys}
+use Rattle.ccsk.specs.Term.{Term, Key, nil, pre, cho, par, res, Std, Has, done, keys, size}
 use Rattle.ccsk.specs.Step.{Undo, Undo.top, Undo.prefix, Undo.choice₁, Undo.choice₂, Undo.par₁, Undo.par₂, Undo.synch, Undo.restrict}
 use Rattle.ccsk.proofs.Basic.{never, std-has}
 use Rattle.ccsk.proofs.Undo.{key-pos, present}
@@ -34,6 +35,19 @@ in-has m (pre a (suc k) t) (inr i) = let r = in-has m t i in (r .0, inr (r .1))
 in-has m (cho t u) i = ⊎-elim (λ j. let r = in-has m t j in (r .0, inl (r .1))) (λ j. let r = in-has m u j in (r .0, inr (r .1))) (in-either m (keys t) (keys u) i)
 in-has m (par t u) i = ⊎-elim (λ j. let r = in-has m t j in (r .0, inl (r .1))) (λ j. let r = in-has m u j in (r .0, inr (r .1))) (in-either m (keys t) (keys u) i)
 in-has m (res a t) i = in-has m t i
+
+-- no more keys than nodes
+done-length : (k : Key) (l : List Key) → length (done k l) ≤ suc (length l)
+done-length zero l = omega arith
+done-length (suc k) l = omega arith
+
+pub keys-few : (t : Term) → length (keys t) ≤ size t
+unfolding keys size
+keys-few nil = omega arith
+keys-few (pre a k t) = omega (arith, done-length k (keys t), keys-few t)
+keys-few (cho t u) = omega (arith, length-append (keys t) (keys u), keys-few t, keys-few u)
+keys-few (par t u) = omega (arith, length-append (keys t) (keys u), keys-few t, keys-few u)
+keys-few (res a t) = omega (arith, keys-few t)
 
 pub std-keys : (t : Term) → Std t → keys t ≡ []
 unfolding keys

@@ -73,6 +73,16 @@ pub distinct-new : (a : ℕ) (l : List ℕ) → ¬ In a l → distinct (a ∷ l)
 unfolding distinct
 distinct-new a l i = new-new (in? a l) (distinct l) i
 
+-- no more different ones than numbers
+pub distinct-length : (l : List ℕ) → distinct l ≤ length l
+unfolding distinct
+distinct-length [] = omega arith
+distinct-length (a ∷ l) = pick (in? a l) (distinct-length l)
+  where
+    pick : Dec (In a l) → distinct l ≤ length l → distinct (a ∷ l) ≤ suc (length l)
+    pick (yes i) h = omega (arith, distinct-old a l i)
+    pick (no i) h = omega (arith, distinct-new a l i)
+
 -- to take out a number is to have one less
 pub distinct-without : (m : ℕ) (l : List ℕ) → In m l → distinct l ≡ suc (distinct (without m l))
 distinct-without m [] i = absurd i

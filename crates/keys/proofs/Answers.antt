@@ -3,12 +3,12 @@ use mathlib.Core.Path.{_≡_, refl, sym, subst, _∙_}
 use mathlib.Core.Logic.{_≢_}
 use mathlib.Core.List.{List}
 use mathlib.Core.Bool.{Bool, true, false}
-use Prim.Native.Nat.{ℕ, zero, suc, _≤_, _<_}
+use Prim.Native.Nat.{ℕ, zero, suc, _<_}
 use native.Mathlib.Omega.{arith}
-use lib.ListN.{length, length-append}
 use Rattle.ccsk.specs.Numbers.{In}
-use Rattle.ccsk.specs.Term.{Term, Key, nil, pre, cho, par, res, keys, done, size}
-use Rattle.ccsk.proofs.Lists.{least-free}
+use Rattle.ccsk.specs.Term.{Term, Key, keys}
+use Rattle.ccsk.proofs.Lists.{distinct-length, least-free}
+use Rattle.ccsk.proofs.Keys.{keys-few}
 use Rattle.format.specs.Read.{Reads, Refuses}
 use Rattle.operations.specs.Ask as ask
 use Rattle.operations.specs.Change as change
@@ -19,7 +19,6 @@ use Rattle.keys.specs.declared.Number.{Number}
 use Rattle.keys.specs.declared.Number.the-variants.{Refused, Is}
 use Rattle.keys.specs.Number.{refusal, value}
 use Rattle.keys.specs.Gather.{Scanned, Gathered, Cleared}
-use Rattle.keys.proofs.Distinct.{distinct-length}
 use Rattle.keys.proofs.Marks.{not-both}
 
 -- the answer of `gather`, once its case is known
@@ -34,19 +33,6 @@ pub counted : (s m : List ℕ) (r : Number) → Gathered s m r → ask.KeyCount 
 counted s m (Refused c) g = ask.KeyCount.unreadable g
 counted s m (Is n) g = rw (g .count) (ask.KeyCount.done (g .whole .reads))
 
--- a term has at most as many keys as nodes
-done-length : (k : Key) (l : List Key) → length (done k l) ≤ suc (length l)
-done-length zero l = omega arith
-done-length (suc k) l = omega arith
-
-keys-length : (t : Term) → length (keys t) ≤ size t
-unfolding keys size
-keys-length nil = omega arith
-keys-length (pre a k t) = omega (arith, done-length k (keys t), keys-length t)
-keys-length (cho t u) = omega (arith, length-append (keys t) (keys u), keys-length t, keys-length u)
-keys-length (par t u) = omega (arith, length-append (keys t) (keys u), keys-length t, keys-length u)
-keys-length (res a t) = omega (arith, keys-length t)
-
 module _ (s m : List ℕ) (n : ℕ) (S : Scanned s m n) where
   -- with 0 put in, a key above 0 is in the set if it stands in the record
   other : (k : Key) → k ≢ 0 → member (added m 0) k ≡ member m k
@@ -56,7 +42,7 @@ module _ (s m : List ℕ) (n : ℕ) (S : Scanned s m n) where
   pub some-missing : (m′ : List ℕ) → m′ ≡ added m 0 → Missing m′
   some-missing m′ e =
       let f = least-free (keys (S .of)) in
-      let small : f .0 < 65536 = omega (arith, f .1, distinct-length (keys (S .of)), keys-length (S .of), S .whole .fits .nodes) in
+      let small : f .0 < 65536 = omega (arith, f .1, distinct-length (keys (S .of)), keys-few (S .of), S .whole .fits .nodes) in
       rw e (f .0, small, other (f .0) (λ z. omega (arith, f .2 .pos, z)) ∙ absent (f .0) small (f .2 .free))
     where
       absent : (k : Key) → k < 65536 → ¬ In k (keys (S .of)) → member m k ≡ false

@@ -2,10 +2,8 @@
 use mathlib.Core.Path.{_≡_, refl, sym, ap}
 use mathlib.Core.Logic.{inl, inr, ⊎-elim, _≢_}
 use mathlib.Core.List.{List, [], _∷_, _++_}
-use Prim.Native.Nat.{ℕ, suc, _≤_}
+use Prim.Native.Nat.{ℕ, suc}
 use native.Mathlib.Decide.{ℕ-discrete}
-use native.Mathlib.Omega.{arith}
-use lib.ListN.{length}
 use Rattle.ccsk.specs.Numbers.{In, in?, distinct}
 use Rattle.ccsk.proofs.Lists.{in-left, in-right, in-either, distinct-old, distinct-new}
 
@@ -41,12 +39,3 @@ distinct-snoc-old a (b ∷ l) i = pick (in? b l) (in? a l) (ℕ-discrete b a) (d
     pick (no j) (no q) (yes e) old fresh = rw (distinct-new b l j, distinct-old b (snoc l a) (rw e (snoc-last a l))) (fresh q)
     pick (no j) q (no e) old fresh =
         rw (distinct-new b l j, distinct-new b (snoc l a) (λ z. j (in-snoc b a l e z))) (ap suc (old (⊎-elim (λ z. absurd (e (sym z))) (λ z. z) i)))
-
-pub distinct-length : (l : List ℕ) → distinct l ≤ length l
-unfolding distinct
-distinct-length [] = omega arith
-distinct-length (a ∷ l) = pick (in? a l) (distinct-length l)
-  where
-    pick : Dec (In a l) → distinct l ≤ length l → distinct (a ∷ l) ≤ suc (length l)
-    pick (yes i) h = omega (arith, distinct-old a l i)
-    pick (no i) h = omega (arith, distinct-new a l i)

@@ -7,10 +7,10 @@ use Prim.Native.Nat.{ℕ, zero, suc, _+_, _≤_, _<_}
 use native.Mathlib.Omega.{arith}
 use lib.ListN.{length, getD}
 use Rattle.ccsk.specs.Numbers.{In}
+use Rattle.ccsk.proofs.Lists.{distinct-length}
 use Rattle.causes.specs.Columns.{Faithful, Positive}
 use Rattle.keyset.specs.Set.{member}
 use Rattle.keys.specs.Gather.{Holds}
-use Rattle.keys.proofs.Distinct.{distinct-length}
 use Rattle.rank.specs.Rank.{rank}
 use Rattle.rank.proofs.Ranks.{rank-once, rank-less, rank-counts}
 use Rattle.slots.specs.Slot.{slot, Renamed, Numberable, Numbered}

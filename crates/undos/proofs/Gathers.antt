@@ -8,6 +8,7 @@ use native.Mathlib.Omega.{arith}
 use borrow.Author.Tests.{ne-eqb}
 use lib.ListN.{length}
 use Rattle.ccsk.specs.Term.{Term, nil, cho, par, size, done}
+use Rattle.ccsk.proofs.Keys.{keys-few}
 use Rattle.format.specs.Limits.{node-limit}
 use Rattle.reader.specs.Head.{body, childCount}
 use Rattle.reader.specs.Walk.{Stops, Walks, NodeDue}
@@ -17,7 +18,7 @@ use Rattle.undos.specs.declared.gather.Entered.{Entered}
 use Rattle.undos.specs.declared.gather.Outcome.{Outcome}
 use Rattle.undos.specs.declared.gather.Outcome.the-variants as found
 use Rattle.undos.specs.Gather.{key-at, name-at, Enters, closed, OverPrefix, over-two, Lent, Noted, Gathers}
-use Rattle.undos.proofs.Notes.{arrays, keys-few, lasts-few, noted-nil, noted-prefix, noted-restriction, noted-parallel, noted-choice}
+use Rattle.undos.proofs.Notes.{arrays, lasts-few, noted-nil, noted-prefix, noted-restriction, noted-parallel, noted-choice}
 
 -- entering a node notes one key at most
 done-one : (k : ℕ) → length (done k []) ≤ 1

@@ -119,19 +119,7 @@ holds-counted t k k′ e = some-key t ∙ pick (ℕ-discrete (length (keys t)) 0
     pick (yes z) = rw (eq-eqb (length (keys t)) 0 z, eq-eqb k′ k (omega arith))
     pick (no z) = rw (ne-eqb (length (keys t)) 0 z, ne-eqb k′ k (λ q. z (omega arith)))
 
--- no more keys than nodes, and no more lasts than keys
-done-count : (k : Key) (x : List Key) → (length x ≤ length (done k x)) × (length (done k x) ≤ suc (length x))
-done-count zero x = omega arith
-done-count (suc k) x = omega arith
-
-pub keys-few : (t : Term) → length (keys t) ≤ size t
-unfolding keys size
-keys-few nil = omega arith
-keys-few (pre a k t) = omega (arith, done-count k (keys t), keys-few t)
-keys-few (cho t u) = rw (length-append (keys t) (keys u)) (omega (arith, keys-few t, keys-few u))
-keys-few (par t u) = rw (length-append (keys t) (keys u)) (omega (arith, keys-few t, keys-few u))
-keys-few (res a t) = omega (arith, keys-few t)
-
+-- no more lasts than keys
 prefix-few : (k : Key) (e : Last) (h : Bool) (x : List Last) (y : List Key) → length x ≤ length y → length (over-prefix (eqb k 0) h e x) ≤ length (done k y)
 prefix-few zero e h x y l = omega arith
 prefix-few (suc k) e true x y l = rw (ne-eqb (suc k) 0 (λ z. omega arith)) (omega arith)

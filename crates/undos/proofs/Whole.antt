@@ -12,7 +12,7 @@ use Rattle.ccsk.specs.Numbers.{In, Lists}
 use Rattle.ccsk.specs.Term.{Term, Key, Node, nil, pre, cho, par, res, keys, done, labels, tick, size}
 use Rattle.ccsk.specs.Step.{Undoable}
 use Rattle.ccsk.proofs.Lists.{in-left, in-right}
-use Rattle.ccsk.proofs.Keys.{in-has}
+use Rattle.ccsk.proofs.Keys.{in-has, keys-few}
 use Rattle.format.specs.Limits.{node-limit, depth-limit}
 use Rattle.format.specs.Read.{Reads}
 use Rattle.format.specs.Encode.{InRange, Bytes}
@@ -30,7 +30,7 @@ use Rattle.undos.specs.declared.gather.Outcome.the-variants as found
 use Rattle.undos.specs.Gather.{Lent, Noted, Gathers}
 use Rattle.undos.specs.Group.{Small, Positive, AllAmong, times}
 use Rattle.undos.specs.Rows.{Lines, Lines.lines}
-use Rattle.undos.proofs.Notes.{keys-few, lasts-few}
+use Rattle.undos.proofs.Notes.{lasts-few}
 use Rattle.undos.proofs.Gathers.{gathers-refused, gathers-part}
 
 -- a key stands as often as it marks actions
