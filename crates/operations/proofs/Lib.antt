@@ -16,3 +16,5 @@ pub mod KeyPlaces
 pub mod Reversible
 pub mod Reachable
 pub mod Laws
+pub mod Bounds
+pub mod NodeBounds

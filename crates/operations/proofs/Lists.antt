@@ -1,14 +1,16 @@
--- Ascending lists: exactly one lists given numbers, and it can be computed. So can the least free key, and it is one.
+-- Ascending lists: how long one can be; exactly one lists given numbers, and it can be computed. So can the least free key, and it is one.
 use mathlib.Core.Path.{_≡_, refl, sym, _∙_}
 use mathlib.Core.Logic.{_⊎_, inl, inr, ⊎-elim, _↔_}
 use mathlib.Core.List.{List, [], _∷_}
 use Prim.Native.Nat.{ℕ, suc, _+_, _<_, _≤_}
 use native.Mathlib.Decide.{ℕ-discrete, decLt}
 use native.Mathlib.Omega.{arith}
+use lib.ListN.{length}
 use Rattle.ccsk.specs.Numbers.{In, in?, distinct, AscendingFrom, Lists, LeastFree}
+use Rattle.ccsk.specs.Without.{without}
 use Rattle.ccsk.specs.Decide.{both}
 use Rattle.ccsk.proofs.Decide.{isnt}
-use Rattle.ccsk.proofs.Lists.{row-distinct}
+use Rattle.ccsk.proofs.Lists.{in-without, distinct-without, row-distinct}
 use Rattle.operations.proofs.Search.{Least, search-up}
 
 -- what stands in a list that ascends from n is above n
@@ -16,6 +18,13 @@ pub above : (n : ℕ) (x : List ℕ) → AscendingFrom n x → (k : ℕ) → In 
 above n [] o k i = absurd i
 above n (a ∷ x) o k (inl e) = omega arith
 above n (a ∷ x) o k (inr i) = omega (arith, above a x (o .1) k i)
+
+-- an ascending list of numbers of x is no longer than x has different ones
+pub ascending-few : (n : ℕ) (l x : List ℕ) → AscendingFrom n l → ((k : ℕ) → In k l → In k x) → length l ≤ distinct x
+ascending-few n [] x o f = omega arith
+ascending-few n (a ∷ l) x o f =
+    let rest : (k : ℕ) → In k l → In k (without a x) = λ k i. in-without k a x (λ e. omega (arith, above a l (o .1) k i)) .1 (f k (inr i)) in
+    omega (arith, distinct-without a x (f a (inl refl)), ascending-few a l (without a x) (o .1) rest)
 
 -- two ascending lists with the same numbers are equal
 ascending-once : (n : ℕ) (x y : List ℕ) → AscendingFrom n x → AscendingFrom n y → ((k : ℕ) → In k x ↔ In k y) → x ≡ y
