@@ -1,15 +1,16 @@
 -- The walk's answer: every node that is shown has a known kind, a byte of its body is a byte of the record, and what the entry answers.
 use mathlib.Core.Path.{_≡_, refl, sym, subst, _∙_}
-use mathlib.Core.List.{List, [], _∷_, _++_}
+use mathlib.Core.List.{List, [], _∷_}
 use Prim.Native.Nat.{ℕ, zero, suc, _+_, _*_, _≤_, _<_}
 use native.Mathlib.Omega.{arith}
 use lib.ListN.{length, getD, take, drop, length-take}
-use lib.Seq.{getD-take, getD-drop}
-use Rattle.ccsk.specs.Term.{Term, nil, pre, cho, par, res}
+use lib.Seq.{drop-nil, getD-take, getD-drop}
 use Rattle.format.specs.Read.{Opened, Opened.refused, opened, decode}
-use Rattle.format.specs.Preorder as term
+use Rattle.format.specs.Encode.{Bytes}
 use Rattle.format.specs.Preorder.{shown, preorder}
 use Rattle.operations.specs.Ask.{ReadRecord, ShownNode}
+use Rattle.operations.proofs.Readable.{read-fits}
+use Rattle.operations.proofs.NodeBounds.{SmallShown, term-node-small}
 use Rattle.reader.proofs.Whole.{record-refused, record-reads}
 use Rattle.reader.specs.Count.{refusal}
 use Rattle.reader.specs.Count as count
@@ -22,36 +23,13 @@ use Rattle.walker.specs.Shown.{nodes, NodeShown}
 use Rattle.concoursel.specs.Packed.{answer, node-answer, PackedNode, PackedNode.packed}
 use Rattle.concoursel.specs.Known.{Known}
 
--- each has one of the five kinds
-abbrev Kinds : List term.Shown → Type 0
-Kinds [] = Unit {0}
-Kinds (shown k b d ∷ l) = (k ≤ 4) × Kinds l
-
-kinds-append : (l m : List term.Shown) → Kinds l → Kinds m → Kinds (l ++ m)
-kinds-append [] m h g = g
-kinds-append (shown k b d ∷ l) m h g = (h .0, kinds-append l m (h .1) g)
-
-kinds-preorder : (d : ℕ) (t : Term) → Kinds (preorder d t)
-unfolding preorder
-kinds-preorder d nil = (omega arith, tt)
-kinds-preorder d (pre a k t) = (omega arith, kinds-preorder (suc d) t)
-kinds-preorder d (cho t u) = (omega arith, kinds-append (preorder (suc d) t) (preorder (suc d) u) (kinds-preorder (suc d) t) (kinds-preorder (suc d) u))
-kinds-preorder d (par t u) = (omega arith, kinds-append (preorder (suc d) t) (preorder (suc d) u) (kinds-preorder (suc d) t) (kinds-preorder (suc d) u))
-kinds-preorder d (res a t) = (omega arith, kinds-preorder (suc d) t)
-
-kinds-nodes : (o : Opened) → Kinds (nodes o)
-kinds-nodes (refused c) = tt
-kinds-nodes (opened t) = kinds-preorder 1 t
-
-kinds-one : (n : ℕ) (l : List term.Shown) → Kinds l → Kinds (take 1 (drop n l))
-kinds-one zero [] h = tt
-kinds-one zero (shown k b d ∷ l) h = (h .0, tt)
-kinds-one (suc n) [] h = tt
-kinds-one (suc n) (shown k b d ∷ l) h = kinds-one n l (h .1)
-
-pub shown-known : (s : List ℕ) (n : ℕ) (r : Shown) → NodeShown s n r → Known r
-shown-known s n Nothing e = tt
-shown-known s n (Node kind body long depth) e = subst Kinds (sym e) (kinds-one n (nodes (decode s)) (kinds-nodes (decode s))) .0
+pub shown-known : (s : List ℕ) (n : ℕ) (r : Shown) → Bytes s → NodeShown s n r → Known r
+shown-known s n Nothing B e = tt
+shown-known s n (Node kind body long depth) B e = subst SmallShown (sym e) (small (decode s) refl) .known
+  where
+    small : (o : Opened) → decode s ≡ o → SmallShown (take 1 (drop n (nodes o)))
+    small (refused c) f = rw drop-nil tt
+    small (opened t) f = term-node-small n t (read-fits s B f)
 
 pub known-kind : (r : Shown) → Known r → (kind body long depth : ℕ) → r ≡ Node kind body long depth → kind ≤ 4
 known-kind r h kind body long depth e = subst Known e h

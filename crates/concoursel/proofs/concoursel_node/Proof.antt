@@ -1,5 +1,6 @@
 -- `concoursel_node` meets its contract: a refusal of the reader, or what the walker shows of the record that was read.
 use native.Mathlib.Omega.{arith}
+use Rattle.reader.proofs.Whole.{slice-bytes}
 use Rattle.concoursel.proofs.Nodes.{shown-known, node-refused, node-shown}
 use borrow.Author.Needs.{needs}
 use Rattle.concoursel.proofs.concoursel_node.Statement.{statement}
@@ -24,7 +25,7 @@ node-requires : tie.Need-node-requires
 node-requires c κs = search needs
 
 packed-node-requires : tie.Need-packed-node-requires
-packed-node-requires c κs = let a = c .before .before .before .before .before .args in shown-known (a .«record» .now) (a .n) (c .node .result) (c .node .ensures)
+packed-node-requires c κs = let a = c .before .before .before .before .before .args in shown-known (a .«record» .now) (a .n) (c .node .result) (slice-bytes (a .«record» .now) (λ i. c .before .before .before .before .shared-slice-known .given i .fits)) (c .node .ensures)
 
 returns : tie.Need-returns
 returns c = let a = c .before .before .before .before .before .args in node-refused (a .«record» .now) (a .n) (c .before .before .before .read .result) (c .before .before .before .read .ensures) _ _ (c .before .c .given .1) (omega arith)
