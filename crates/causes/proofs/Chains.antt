@@ -8,6 +8,7 @@ use native.Mathlib.Omega.{arith}
 use lib.ListN.{length, length-append}
 use Rattle.ccsk.specs.Term.{Term, nil, pre, cho, par, res, Has, labels, size}
 use Rattle.ccsk.proofs.Basic.{never, labels-same, labels-other, labels-fresh}
+use Rattle.sound.proofs.Derive.{apart-two}
 use Rattle.sound.specs.Sound.{count, Twice, Apart, Split, Above, Before, Chain, one, more, Ordered}
 use Rattle.causes.specs.Entry.{Entry, Scopes, under, open-scopes, marked, entries, all}
 use Rattle.causes.specs.Tests.{Leads, Acyclic}
@@ -122,16 +123,6 @@ count-res : (m a : ℕ) (t : Term) → count m (res a t) ≡ count m t
 unfolding labels
 count-res m a t = refl
 
-apart-count : (m : ℕ) (t : Term) → Apart m t → 2 ≤ count m t
-apart-count m nil i = absurd i
-apart-count m (pre a k t) i = let h = apart-count m t i in let z = count-pre m a k t in omega arith
-apart-count m (cho t r) (inl i) = let h = apart-count m t i in let z = count-cho m t r in omega arith
-apart-count m (cho t r) (inr i) = let h = apart-count m r i in let z = count-cho m t r in omega arith
-apart-count m (par t r) (inl i) = let z = count-par m t r in omega arith
-apart-count m (par t r) (inr (inl i)) = let h = apart-count m t i in let z = count-par m t r in omega arith
-apart-count m (par t r) (inr (inr i)) = let h = apart-count m r i in let z = count-par m t r in omega arith
-apart-count m (res a t) i = let h = apart-count m t i in let z = count-res m a t in omega arith
-
 self-count : (m : ℕ) (t : Term) → Above m m t → 2 ≤ count m t
 self-count m nil i = absurd i
 self-count m (pre a k t) (inl i) = let h = has-count m t (i .1) in let z = ap length (labels-same m a k t (i .0)) in omega arith
@@ -145,17 +136,17 @@ self-count m (res a t) i = let h = self-count m t i in let z = count-res m a t i
 -- a key that stands twice, once on each side of a parallel, does not stand below itself
 self-apart : (m : ℕ) (t : Term) → count m t ≤ 2 → Above m m t → ¬ Apart m t
 self-apart m nil c i p = i
-self-apart m (pre a k t) c (inl i) p = let h = apart-count m t p in let z = ap length (labels-same m a k t (i .0)) in omega arith
+self-apart m (pre a k t) c (inl i) p = let h = apart-two m t p in let z = ap length (labels-same m a k t (i .0)) in omega arith
 self-apart m (pre a k t) c (inr i) p = self-apart m t (let z = count-pre m a k t in omega arith) i p
 self-apart m (cho t r) c (inl i) (inl p) = self-apart m t (let z = count-cho m t r in omega arith) i p
-self-apart m (cho t r) c (inl i) (inr p) = let h = self-count m t i in let k = apart-count m r p in let z = count-cho m t r in omega arith
-self-apart m (cho t r) c (inr i) (inl p) = let h = self-count m r i in let k = apart-count m t p in let z = count-cho m t r in omega arith
+self-apart m (cho t r) c (inl i) (inr p) = let h = self-count m t i in let k = apart-two m r p in let z = count-cho m t r in omega arith
+self-apart m (cho t r) c (inr i) (inl p) = let h = self-count m r i in let k = apart-two m t p in let z = count-cho m t r in omega arith
 self-apart m (cho t r) c (inr i) (inr p) = self-apart m r (let z = count-cho m t r in omega arith) i p
 self-apart m (par t r) c (inl i) (inl p) = let h = self-count m t i in omega arith
 self-apart m (par t r) c (inr i) (inl p) = let h = self-count m r i in omega arith
 self-apart m (par t r) c (inl i) (inr (inl p)) = self-apart m t (let z = count-par m t r in omega arith) i p
-self-apart m (par t r) c (inl i) (inr (inr p)) = let h = self-count m t i in let k = apart-count m r p in let z = count-par m t r in omega arith
-self-apart m (par t r) c (inr i) (inr (inl p)) = let h = self-count m r i in let k = apart-count m t p in let z = count-par m t r in omega arith
+self-apart m (par t r) c (inl i) (inr (inr p)) = let h = self-count m t i in let k = apart-two m r p in let z = count-par m t r in omega arith
+self-apart m (par t r) c (inr i) (inr (inl p)) = let h = self-count m r i in let k = apart-two m t p in let z = count-par m t r in omega arith
 self-apart m (par t r) c (inr i) (inr (inr p)) = self-apart m r (let z = count-par m t r in omega arith) i p
 self-apart m (res a t) c i p = self-apart m t (let z = count-res m a t in omega arith) i p
 

@@ -8,7 +8,7 @@ use native.Mathlib.Decide.{ℕ-discrete}
 use native.Mathlib.Omega.{arith}
 use borrow.Author.Tests.{eq-eqb, ne-eqb}
 use lib.Dec.{eqb}
-use lib.ListN.{length}
+use lib.ListN.{length, getD, replicate}
 use Rattle.ccsk.specs.Numbers.{In, in?, new, distinct, LeastFree}
 use Rattle.ccsk.specs.Without.{skip, without}
 
@@ -72,6 +72,18 @@ distinct-old a l i = new-old (in? a l) (distinct l) i
 pub distinct-new : (a : ℕ) (l : List ℕ) → ¬ In a l → distinct (a ∷ l) ≡ suc (distinct l)
 unfolding distinct
 distinct-new a l i = new-new (in? a l) (distinct l) i
+
+-- what stands at a place of a list is in it
+pub getD-in : (l : List ℕ) (i : ℕ) → i < length l → In (getD l i 0) l
+getD-in [] i h = absurd (omega arith)
+getD-in (a ∷ l) zero h = inl refl
+getD-in (a ∷ l) (suc i) h = inr (getD-in l i (omega arith))
+
+-- a row of zeros has 0 everywhere, and past its end too
+pub getD-zeros : (n i : ℕ) → _≡_ {A = ℕ} (getD (replicate n 0) i 0) 0
+getD-zeros zero i = refl
+getD-zeros (suc n) zero = refl
+getD-zeros (suc n) (suc i) = getD-zeros n i
 
 -- no more different ones than numbers
 pub distinct-length : (l : List ℕ) → distinct l ≤ length l

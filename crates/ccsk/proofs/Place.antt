@@ -28,12 +28,12 @@ abbrev pub Under : ℕ → List ℕ → Type 0
 Under n [] = Unit {0}
 Under n (p ∷ l) = (p < n) × Under n l
 
-under-shift : (k n b : ℕ) (l : List ℕ) → k + n ≤ b → Under n l → Under b (shift k l)
+pub under-shift : (k n b : ℕ) (l : List ℕ) → k + n ≤ b → Under n l → Under b (shift k l)
 unfolding shift
 under-shift k n b [] h u = tt
 under-shift k n b (p ∷ l) h u = (omega arith, under-shift k n b l h (u .1))
 
-under-append : (n : ℕ) (x y : List ℕ) → Under n x → Under n y → Under n (x ++ y)
+pub under-append : (n : ℕ) (x y : List ℕ) → Under n x → Under n y → Under n (x ++ y)
 under-append n [] y u v = v
 under-append n (p ∷ x) y u v = (u .0, under-append n x y (u .1) v)
 

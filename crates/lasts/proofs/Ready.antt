@@ -3,11 +3,12 @@ use mathlib.Core.Path.{_≡_, refl, _∙_}
 use mathlib.Core.Logic.{_↔_}
 use mathlib.Core.List.{List, [], _∷_}
 use mathlib.Core.Bool.{true}
-use Prim.Native.Nat.{ℕ, zero, suc, _<_, _≤_}
+use Prim.Native.Nat.{ℕ, _<_, _≤_}
 use native.Mathlib.Omega.{arith}
-use lib.ListN.{length, getD, replicate}
+use lib.ListN.{length}
 use Rattle.ccsk.specs.Term.{Term, Key, Label, labels, size}
 use Rattle.ccsk.specs.Step.{Undoable}
+use Rattle.ccsk.proofs.Lists.{getD-zeros}
 use Rattle.ccsk.proofs.Undo.{present}
 use Rattle.format.specs.Encode.{InRange}
 use Rattle.moves.specs.Choose.{undo-choice}
@@ -17,13 +18,8 @@ use Rattle.lasts.specs.Last.{Last, slot, open-scopes, all-lasts, only, R
 use Rattle.lasts.proofs.Told.{Dead, Dead.lost, Dead.many, Dead.hidden, Dead.clash, Told, Told.none, Told.lone, Told.pair, Told.dead, Above}
 use Rattle.lasts.proofs.Nodes.{told}
 
-all-zero : (n i : ℕ) → _≡_ {A = ℕ} (getD (replicate n 0) i 0) 0
-all-zero zero i = refl
-all-zero (suc n) zero = refl
-all-zero (suc n) (suc i) = all-zero n i
-
 open-above : Above 0 open-scopes
-open-above = record { whole = refl; past = λ l. omega (arith, all-zero 128 (slot l)) }
+open-above = record { whole = refl; past = λ l. omega (arith, getD-zeros 128 (slot l)) }
 
 -- as many places are last as hold the key, one or two
 pub ready-count : (c : ℕ) (x : List Last) → Ready c x → (length x ≡ c) × (c ≤ 2)
@@ -40,7 +36,7 @@ dead-not-ready b _ _ (clash f) r = f (r .1, r .2)
 
 decides : (m : Key) (t : Term) (b : ℕ) (x : List Last) (c : List Label) (v : Move) → Told open-scopes 0 b x c v → UndoTells m t v → Undoable t m ↔ Ready (length c) x
 decides m t b _ _ _ none f = (λ u. absurd (f (present (u .2))), λ r. absurd r)
-decides m t b _ _ _ (lone {l = l} a p q) u = (λ w. (refl, q ∙ all-zero 128 (slot l)), λ r. (l, u .0, u .1))
+decides m t b _ _ _ (lone {l = l} a p q) u = (λ w. (refl, q ∙ getD-zeros 128 (slot l)), λ r. (l, u .0, u .1))
 decides m t b _ _ _ (pair o q) u = (λ w. (refl, o, q), λ r. (0, u .0, u .1))
 decides m t b x c _ (dead d) u = (λ w. absurd (u .1 w), λ r. absurd (dead-not-ready b x c d r))
 

@@ -3,11 +3,11 @@ use mathlib.Core.Path.{_≡_, refl, sym}
 use mathlib.Core.Logic.{_≢_}
 use mathlib.Core.List.{List, [], _∷_, _++_, append-nil}
 use mathlib.Core.Bool.{Bool, true, false}
-use Prim.Native.Nat.{ℕ, suc, _+_, _≤_}
+use Prim.Native.Nat.{ℕ, suc, _+_}
 use native.Mathlib.Omega.{arith}
 use Rattle.ccsk.specs.Term.{Term, Key, Node, nil, pre, cho, par, res, size, tick}
 use Rattle.ccsk.specs.Place.{shift}
-use Rattle.ccsk.proofs.Place.{Under}
+use Rattle.ccsk.proofs.Place.{Under, under-shift, under-append}
 use Rattle.ccsk.proofs.Basic.{nil-left, nil-right}
 use Rattle.ccsk.proofs.ForwardDec.{shift-once, down-le}
 use Rattle.moves.specs.Choose.{chosen}
@@ -22,15 +22,6 @@ some-left k j x y f e = f (shift-nil k x (nil-left (shift k x) (shift j y) e))
 pub some-right : (k j : ℕ) (x y : List ℕ) → y ≢ [] → shift k x ++ shift j y ≢ []
 some-right k j x y f e = f (shift-nil j y (nil-right (shift k x) (shift j y) e))
 
-under-shift : (k n b : ℕ) (x : List ℕ) → k + n ≤ b → Under n x → Under b (shift k x)
-unfolding shift
-under-shift k n b [] h u = tt
-under-shift k n b (p ∷ x) h u = (omega arith, under-shift k n b x h (u .1))
-
-under-both : (b : ℕ) (x y : List ℕ) → Under b x → Under b y → Under b (x ++ y)
-under-both b [] y u v = v
-under-both b (p ∷ x) y u v = (u .0, under-both b x y (u .1) v)
-
 -- the chosen nodes are nodes of the term
 pub chosen-under : (c : Node → Key → Bool) (n : Node) (t : Term) → Under (size t) (chosen c n t)
 unfolding chosen size
@@ -40,10 +31,10 @@ chosen-under c n (pre a k t) = first (c n k) (under-shift 1 (size t) (suc (size 
     first : (b : Bool) → Under (suc (size t)) (shift 1 (chosen c (n + 1) t)) → Under (suc (size t)) (tick b 0 (shift 1 (chosen c (n + 1) t)))
     first true u = (omega arith, u)
     first false u = u
-chosen-under c n (cho t u) = under-both (suc (size t + size u)) (shift 1 (chosen c (n + 1) t)) (shift (1 + size t) (chosen c (n + 1 + size t) u))
+chosen-under c n (cho t u) = under-append (suc (size t + size u)) (shift 1 (chosen c (n + 1) t)) (shift (1 + size t) (chosen c (n + 1 + size t) u))
     (under-shift 1 (size t) (suc (size t + size u)) (chosen c (n + 1) t) (omega arith) (chosen-under c (n + 1) t))
     (under-shift (1 + size t) (size u) (suc (size t + size u)) (chosen c (n + 1 + size t) u) (omega arith) (chosen-under c (n + 1 + size t) u))
-chosen-under c n (par t u) = under-both (suc (size t + size u)) (shift 1 (chosen c (n + 1) t)) (shift (1 + size t) (chosen c (n + 1 + size t) u))
+chosen-under c n (par t u) = under-append (suc (size t + size u)) (shift 1 (chosen c (n + 1) t)) (shift (1 + size t) (chosen c (n + 1 + size t) u))
     (under-shift 1 (size t) (suc (size t + size u)) (chosen c (n + 1) t) (omega arith) (chosen-under c (n + 1) t))
     (under-shift (1 + size t) (size u) (suc (size t + size u)) (chosen c (n + 1 + size t) u) (omega arith) (chosen-under c (n + 1 + size t) u))
 chosen-under c n (res a t) = under-shift 1 (size t) (suc (size t)) (chosen c (n + 1) t) (omega arith) (chosen-under c (n + 1) t)

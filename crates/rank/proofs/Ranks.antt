@@ -12,9 +12,6 @@ use Rattle.keyset.specs.Set.{member, tick, membersBelow}
 use Rattle.keyset.proofs.Counts.{members-count}
 use Rattle.rank.specs.Rank.{one-more, rank}
 
-true-false : {A : Type 0} → _≡_ {A = Bool} true false → A
-true-false e = absurd (let z : _≡_ {A = ℕ} 0 1 = cc in omega arith)
-
 pub rank-in : (s : List ℕ) (k : ℕ) → member s k ≡ true → rank s (suc k) ≡ suc (rank s k)
 unfolding rank
 rank-in s k e = rw e

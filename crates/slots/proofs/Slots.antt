@@ -7,7 +7,7 @@ use Prim.Native.Nat.{ℕ, zero, suc, _+_, _≤_, _<_}
 use native.Mathlib.Omega.{arith}
 use lib.ListN.{length, getD}
 use Rattle.ccsk.specs.Numbers.{In}
-use Rattle.ccsk.proofs.Lists.{distinct-length}
+use Rattle.ccsk.proofs.Lists.{getD-in, distinct-length}
 use Rattle.causes.specs.Columns.{Faithful, Positive}
 use Rattle.keyset.specs.Set.{member}
 use Rattle.keys.specs.Gather.{Holds}
@@ -20,11 +20,6 @@ pub in-place : (k : ℕ) (l : List ℕ) → In k l → (i : ℕ) × (i < length 
 in-place k [] i = absurd i
 in-place k (a ∷ l) (inl e) = (0, omega arith, e)
 in-place k (a ∷ l) (inr i) = let w = in-place k l i in (suc (w .0), omega (arith, w .1), w .2)
-
-pub place-in : (l : List ℕ) (i : ℕ) → i < length l → In (getD l i 0) l
-place-in [] i h = absurd (omega arith)
-place-in (a ∷ l) zero h = inl refl
-place-in (a ∷ l) (suc i) h = inr (place-in l i (omega arith))
 
 pub slot-zero : (m : List ℕ) (k : ℕ) → k ≡ 0 → 0 ≡ slot m k
 unfolding slot
@@ -77,7 +72,7 @@ module _ (m ks : List ℕ) (H : Holds m ks) (small : (i : ℕ) → getD ks i 0 <
     faithful = slot-faithful;
     keys = p;
     ups = q;
-    keys-below = λ i h. rw (p .1 i (omega (arith, p .0)), e) (slot-below (getD ks i 0) (place-in ks i (omega (arith, p .0))));
+    keys-below = λ i h. rw (p .1 i (omega (arith, p .0)), e) (slot-below (getD ks i 0) (getD-in ks i (omega (arith, p .0))));
     ups-below = λ i h. rw (q .1 i (omega (arith, q .0)), e) (up-below (getD us i 0) (N .ups i (omega (arith, q .0))));
     some = omega arith;
     few = omega (arith, ranks-few);

@@ -11,6 +11,7 @@ use Rattle.ccsk.specs.Step.{Undo, Undo.top, Undo.prefix, Undo.choice₁, Undo.c
 use Rattle.ccsk.specs.Numbers.{In}
 use Rattle.sound.specs.Sound.{count, Waits, Chosen, Apart, Hidden}
 use Rattle.ccsk.proofs.Basic.{never, fresh-labels, std-labels, labels-same, labels-other}
+use Rattle.ccsk.proofs.Place.{co-pos}
 use Rattle.ccsk.proofs.Undo.{key-pos, absent, labels-kept}
 
 -- an undone prefix is a key in front
@@ -66,10 +67,6 @@ chosen-undo (restrict f d) = chosen-undo d
 pub data Marked (m l : ℕ) (t : Term) : Type 0 where
   lone : labels m t ≡ l ∷ [] → Marked m l t
   pair : (a b : ℕ) → l ≡ 0 → Co a b → labels m t ≡ a ∷ (b ∷ []) → Apart m t → Marked m l t
-
-co-pos : {a b : ℕ} → Co a b → (0 < a) × (0 < b)
-co-pos (inl c) = omega arith
-co-pos (inr c) = omega arith
 
 one-mark : {m l : ℕ} {t : Term} → 0 < l → Marked m l t → labels m t ≡ l ∷ []
 one-mark h (lone e) = e

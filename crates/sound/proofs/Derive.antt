@@ -104,7 +104,7 @@ tick-grows : (b : Bool) (a : ℕ) (l : List ℕ) → length l ≤ length (tick b
 tick-grows true a l = omega arith
 tick-grows false a l = omega arith
 
-apart-two : (m : ℕ) (t : Term) → Apart m t → 2 ≤ count m t
+pub apart-two : (m : ℕ) (t : Term) → Apart m t → 2 ≤ count m t
 unfolding labels
 apart-two m nil i = absurd i
 apart-two m (pre a k t) i = omega (arith, apart-two m t i, tick-grows (eqb m k) a (labels m t))

@@ -16,7 +16,7 @@ use Rattle.lay.proofs.Columns.{column-length}
 use Rattle.lay.proofs.Whole.{entries-count}
 use Rattle.pairs.specs.Rows.{table}
 use Rattle.slots.specs.Slot.{Renamed, Numberable, Numbered}
-use Rattle.slots.proofs.Slots.{place-in}
+use Rattle.ccsk.proofs.Lists.{getD-in}
 use Rattle.verdict.specs.Laid.{Laid}
 use Rattle.soundness.specs.Judge.{Begun, Sheet, Slotted}
 
@@ -101,7 +101,7 @@ module _ (t : Term) (ks acs es ss us : List ℕ) (S : Sheet t ks acs es ss us) w
       faithful = subst (Faithful (N .name)) (S .keys ∙ column-keys (all t)) (N .faithful);
       square = record { actions = long _ acs (S .actions); ends = long _ es (S .ends); scopes = long _ ss (S .scopes); ups = N .ups .0 ∙ long _ us (S .ups) };
       rows = rows;
-      keys = λ i h. rw (N .keys .1 i (omega (arith, N .keys .0))) (N .faithful .keys (getD ks i 0) (place-in ks i (omega (arith, N .keys .0))) .1);
+      keys = λ i h. rw (N .keys .1 i (omega (arith, N .keys .0))) (N .faithful .keys (getD ks i 0) (getD-in ks i (omega (arith, N .keys .0))) .1);
       keys-below = N .keys-below;
       ups-below = N .ups-below;
       some = N .some;

@@ -11,12 +11,13 @@ use borrow.Author.Tests.{eq-eqb, ne-eqb, lt-ltb, le-ltb}
 use lib.Dec.{eqb}
 use lib.ListN.{length, getD, set, take, length-append}
 use lib.Seq.{getD-set-same, getD-set-other, take-suc, length-take-le, getD-take}
-use Rattle.ccsk.specs.Numbers.{In, in?, distinct, new}
+use Rattle.ccsk.specs.Numbers.{In}
 use Rattle.ccsk.specs.Term.{Key, Co}
-use Rattle.ccsk.proofs.Lists.{in-left, in-right, in-either}
+use Rattle.ccsk.proofs.Lists.{in-left, in-right, in-either, getD-in, distinct-length}
 use Rattle.format.specs.Limits.{node-limit}
 use Rattle.keyset.specs.Set.{member, added}
 use Rattle.keyset.proofs.Sets.{added-same, added-other}
+use Rattle.keyset.proofs.Steps.{true-false}
 use Rattle.rank.specs.Rank.{one-more, rank}
 use Rattle.rank.proofs.Ranks.{rank-once, rank-less, rank-counts}
 use Rattle.lasts.specs.Last.{Last, keep, only, Ready}
@@ -27,24 +28,16 @@ use Rattle.undos.specs.Gather.{rows}
 use Rattle.undos.proofs.Rows.{rows-at, rows-length}
 use Rattle.undos.specs.Group.{Fit, Empty, Small, Marks, times, bumped, capped, Counted, AllIn, Standing, Standing.once, Standing.twice, Standing.never, Standing.half, Standing.ready, Settled}
 
-true-false : {A : Type 0} → _≡_ {A = Bool} true false → A
-true-false e = absurd (let z : _≡_ {A = ℕ} 0 1 = cc in omega arith)
-
 -- one more in front of a list
 pub take-more : {A : Type 0} (i : ℕ) (x : List A) (d : A) → i < length x → take (i + 1) x ≡ take i x ++ (getD x i d ∷ [])
 take-more i x d h = rw (add-one i) (take-suc x i d h)
-
-pub getD-in : (x : List ℕ) (i : ℕ) → i < length x → In (getD x i 0) x
-getD-in [] i h = absurd (omega arith)
-getD-in (a ∷ x) zero h = inl refl
-getD-in (a ∷ x) (suc i) h = inr (getD-in x i (omega arith))
 
 pub in-front : (x : List ℕ) (i n : ℕ) → i < n → n ≤ length x → In (getD x i 0) (take n x)
 in-front x i n h l = rw (getD-take n x i 0 h) at (getD-in (take n x) i (omega (arith, length-take-le n x l)))
 
 -- the keys that were put in
 pub marks-none : (x : List ℕ) (s : List ℕ) → Empty s → (k : Key) → k < 65536 → (member s k ≡ true) ↔ In k (take 0 x)
-marks-none x s e k h = (λ q. true-false (sym q ∙ e .none k h), λ i. absurd i)
+marks-none x s e k h = (λ q. absurd (true-false (sym q ∙ e .none k h)), λ i. absurd i)
 
 pub marks-more : (x s : List ℕ) (i : ℕ) → length s ≡ 8192 → i < length x → getD x i 0 < 65536 → ((k : Key) → k < 65536 → (member s k ≡ true) ↔ In k (take i x))
     → (k : Key) → k < 65536 → (member (added s (getD x i 0)) k ≡ true) ↔ In k (take (i + 1) x)
@@ -66,17 +59,8 @@ marks-more x s i w h b f k l = rw (take-more i x 0 h) (pick (ℕ-discrete k m))
         front (inr (inr e)) = absurd e
 
 -- no more ranks than keys
-distinct-few : (x : List ℕ) → distinct x ≤ length x
-unfolding distinct
-distinct-few [] = omega arith
-distinct-few (a ∷ x) = pick (in? a x) (distinct-few x)
-  where
-    pick : (d : Dec (In a x)) → distinct x ≤ length x → new d (distinct x) ≤ suc (length x)
-    pick (yes i) h = omega arith
-    pick (no i) h = omega arith
-
 pub ranks-few : (x s : List ℕ) → Small x → Marks x s → rank s 65536 ≤ length x
-ranks-few x s f w = omega (arith, distinct-few x, rank-counts s 65536 x (λ k. (λ i. (f k i, w .marked k (f k i) .1 i), λ h. w .marked k (h .0) .0 (h .1))))
+ranks-few x s f w = omega (arith, distinct-length x, rank-counts s 65536 x (λ k. (λ i. (f k i, w .marked k (f k i) .1 i), λ h. w .marked k (h .0) .0 (h .1))))
 
 pub rank-within : (s : List ℕ) (k n : ℕ) → rank s 65536 ≤ n → k < 65536 → member s k ≡ true → rank s k < n
 rank-within s k n h l e = omega (arith, rank-less s k 65536 e l)

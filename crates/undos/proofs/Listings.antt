@@ -14,7 +14,7 @@ use lib.Seq.{drop-cons, set-at, length-take-le}
 use Rattle.format.specs.Limits.{node-limit}
 use Rattle.ccsk.specs.Numbers.{In, AscendingFrom, Lists}
 use Rattle.ccsk.specs.Term.{Key}
-use Rattle.ccsk.proofs.Lists.{in-left, in-right, in-either}
+use Rattle.ccsk.proofs.Lists.{in-left, in-right, in-either, getD-zeros}
 use Rattle.keyset.specs.Set.{member}
 use Rattle.keyset.proofs.Sets.{empty-member}
 use Rattle.operations.specs.Ask.{Filled, Filled.short, Filled.filled}
@@ -205,17 +205,12 @@ module _ (s keys : List ℕ) (rs ls : List Last) (st sl : List ℕ) (w : Marks k
               m = last-member s ls k a (λ z. subst (Ready (times k keys)) z r)
 
 -- arrays of zeros
-all-zero : (n i : ℕ) → _≡_ {A = ℕ} (getD (replicate n 0) i 0) 0
-all-zero zero i = refl
-all-zero (suc n) zero = refl
-all-zero (suc n) (suc i) = all-zero n i
-
 pub empty-set : (n : ℕ) → n ≡ 8192 → Empty (replicate n 0)
 empty-set n e = record { whole = length-replicate n 0 ∙ e; none = λ k h. empty-member n k (omega arith) }
 
 pub no-counts : (s : List ℕ) (n : ℕ) → Counted s [] (replicate n 0)
 unfolding times
-no-counts s n k l e = all-zero n (rank s k)
+no-counts s n k l e = getD-zeros n (rank s k)
 
 -- the keys of the lasts are in the set
 pub among-in : (x s : List ℕ) (ls : List Last) → Small x → Marks x s → AllAmong x ls → AllIn s ls

@@ -3,7 +3,6 @@ use mathlib.Core.Path.{_≡_}
 use mathlib.Core.Logic.{inl, inr, ⊎-elim, _≢_}
 use Prim.Native.Nat.{ℕ, _≤_, _<_}
 use native.Mathlib.Decide.{ℕ-discrete}
-use native.Mathlib.Omega.{arith}
 use borrow.Author.Tests.{eq-eqb, ne-eqb}
 use Rattle.ccsk.specs.Numbers.{In}
 use Rattle.ccsk.specs.Term.{Term, Key, nil, pre, cho, par, res, Has, keys}
@@ -11,6 +10,7 @@ use Rattle.ccsk.proofs.Lists.{in-left, in-right, in-either}
 use Rattle.ccsk.proofs.Keys.{has-in, in-has}
 use Rattle.sound.specs.Sound.{Above}
 use Rattle.format.specs.Encode.{InRange}
+use Rattle.operations.proofs.Kept.{range-key}
 use Rattle.waiting.specs.Below.{below}
 
 pub below-here : (m : Key) (a : ℕ) (k : Key) (t : Term) → m ≡ k → below m (pre a k t) ≡ keys t
@@ -61,15 +61,5 @@ above-below m n (par t u) p w =
 above-below m n (res a t) p w = above-below m n t p w
 
 -- a key of a record is a 16-bit number
-has-range : (n : Key) (t : Term) → InRange t → Has n t → n ≤ 65535
-has-range n nil r h = absurd h
-has-range n (pre a k t) r (inl e) = omega (arith, r .2)
-has-range n (pre a k t) r (inr h) = has-range n t (r .3) h
-has-range n (cho t u) r (inl h) = has-range n t (r .0) h
-has-range n (cho t u) r (inr h) = has-range n u (r .1) h
-has-range n (par t u) r (inl h) = has-range n t (r .0) h
-has-range n (par t u) r (inr h) = has-range n u (r .1) h
-has-range n (res a t) r h = has-range n t (r .1) h
-
 pub above-range : (m n : Key) (t : Term) → InRange t → Above m n t → n ≤ 65535
-above-range m n t r w = has-range n t r (above-has m n t w)
+above-range m n t r w = range-key n t r (above-has m n t w)
