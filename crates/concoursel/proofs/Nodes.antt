@@ -12,10 +12,9 @@ use Rattle.operations.specs.Ask.{ReadRecord, ShownNode}
 use Rattle.operations.proofs.Readable.{read-fits}
 use Rattle.operations.proofs.NodeBounds.{SmallShown, term-node-small}
 use Rattle.reader.proofs.Whole.{record-refused, record-reads}
-use Rattle.reader.specs.Count.{refusal}
-use Rattle.reader.specs.Count as count
-use Rattle.reader.specs.declared.Count.{Count}
-use Rattle.reader.specs.declared.Count.the-variants as read
+use Rattle.shared.specs.Number.{refusal, value}
+use Rattle.shared.specs.declared.Number.{Number}
+use Rattle.shared.specs.declared.Number.the-variants as read
 use Rattle.cursor.specs.declared.Shown.{Shown}
 use Rattle.cursor.specs.declared.Shown.the-variants.{Nothing, Node}
 use Rattle.cursor.specs.At.{showing}
@@ -56,15 +55,15 @@ module _ (s : List ℕ) (from long i : ℕ) where
   pub byte-outside : i < long → length s ≤ from + i → 0 ≡ getD (take long (drop from s)) i 0
   byte-outside h g = sym (past-end s (from + i) g) ∙ byte-there h
 
-module _ (s : List ℕ) (n : ℕ) (o : Count) (R : ReadRecord s (refusal o) (count.nodes o)) where
-  as-read : (c : Count) → o ≡ c → ReadRecord s (refusal c) (count.nodes c)
-  as-read c e = subst (λ (x : Count). ReadRecord s (refusal x) (count.nodes x)) e R
+module _ (s : List ℕ) (n : ℕ) (o : Number) (R : ReadRecord s (refusal o) (value o)) where
+  as-read : (c : Number) → o ≡ c → ReadRecord s (refusal c) (value c)
+  as-read c e = subst (λ (x : Number). ReadRecord s (refusal x) (value x)) e R
 
   pub node-refused : (c x : ℕ) → o ≡ read.Refused c → x ≡ answer c 0 0 0 0 → PackedNode (ShownNode s n) x
   node-refused c x e g = rw g (packed (ShownNode.unreadable (record-refused s c (as-read (read.Refused c) e))))
 
-  pub node-shown : (k x : ℕ) (r : Shown) → o ≡ read.Nodes k → NodeShown s n r → x ≡ node-answer 0 (showing s r) → PackedNode (ShownNode s n) x
-  node-shown k x r e h g = let t = record-reads s k (as-read (read.Nodes k) e) in let i : showing s r ≡ take 1 (drop n (preorder 1 (t .0))) = h ∙ rw (t .1) in
+  pub node-shown : (k x : ℕ) (r : Shown) → o ≡ read.Is k → NodeShown s n r → x ≡ node-answer 0 (showing s r) → PackedNode (ShownNode s n) x
+  node-shown k x r e h g = let t = record-reads s k (as-read (read.Is k) e) in let i : showing s r ≡ take 1 (drop n (preorder 1 (t .0))) = h ∙ rw (t .1) in
       rw (g, i) (packed (ShownNode.done (t .1)))
 
 -- the root of a[258].0: kind 1, the mark, action 1, key 258 with the bytes 1 and 2, depth 1; and nothing shown of refused bytes

@@ -1,23 +1,18 @@
 // The entries for a host: every operation on numbers, byte slices and rows. Each calls the proved operation and packs its answer into one number.
 use cursor::Shown;
-use keys::Number;
-use reader::Count;
-use reader::Key;
-use reader::Node;
-use rows::Row;
 use search::First;
+use shared::Key;
+use shared::Node;
+use shared::Number;
 use steps::Moved;
-use undos::listing::Rows;
 ghost use lib.ListN.{getD, take, drop};
 ghost use mathlib.Core.Path.{_≡_};
 ghost use Rattle.cursor.specs.At.{showing};
-ghost use Rattle.keys.specs.Number as number;
+ghost use Rattle.shared.specs.Number as number;
 ghost use Rattle.operations.specs.Ask.{ReadRecord, ShownNode, KeyCount, FreeKey, FirstStep, UndoListing, WaitingList, Soundness};
 ghost use Rattle.operations.specs.Change.{ForwardStep, UndoStep, BlankForm};
-ghost use Rattle.rows.specs.Row as row;
 ghost use Rattle.search.specs.First as first;
 ghost use Rattle.steps.specs.Plan as plan;
-ghost use Rattle.undos.specs.Rows as allowed;
 ghost use Rattle.concoursel.specs.Packed.{step-answer, answer, node-answer, PackedStep, PackedNumber, PackedLent, PackedFirst, PackedNode};
 ghost use Rattle.concoursel.specs.Known.{Known};
 
@@ -55,26 +50,6 @@ fn packed_number(given: Number) -> u64
     match given {
         Number::Refused(c) => c as u64 * REFUSAL,
         Number::Is(n) => n as u64,
-    }
-}
-
-// The answer of an operation that fills a lent row, packed.
-fn packed_row(given: Row) -> u64
-    ensures { λ r. ⌜ r ≡ answer (row.refusal given) 0 0 0 (row.count given) ⌝ }
-{
-    match given {
-        Row::Refused(c) => c as u64 * REFUSAL,
-        Row::Count(n) => n as u64,
-    }
-}
-
-// The answer of the undo listing, packed.
-fn packed_listing(given: Rows) -> u64
-    ensures { λ r. ⌜ r ≡ answer (allowed.refusal given) 0 0 0 (allowed.count given) ⌝ }
-{
-    match given {
-        Rows::Refused(c) => c as u64 * REFUSAL,
-        Rows::Listed(n) => n as u64,
     }
 }
 
@@ -131,10 +106,7 @@ fn packed_node(record: &[u8], given: Shown) -> u64
 pub extern "C" fn concoursel_read(record: &[u8]) -> u64
     ensures { λ r. ⌜ PackedNumber (ReadRecord (now («record» .entry))) r ⌝ }
 {
-    match reader::read(record) {
-        Count::Refused(c) => c as u64 * REFUSAL,
-        Count::Nodes(n) => n as u64,
-    }
+    packed_number(reader::read(record))
 }
 
 // Node n of the walk: kind, body and depth.
@@ -143,8 +115,8 @@ pub extern "C" fn concoursel_node(record: &[u8], n: u16) -> u64
     ensures { λ r. ⌜ PackedNode (ShownNode (now («record» .entry)) n) r ⌝ }
 {
     match reader::read(record) {
-        Count::Refused(c) => c as u64 * REFUSAL,
-        Count::Nodes(_) => packed_node(record, walker::node(record, Node(n))),
+        Number::Refused(c) => c as u64 * REFUSAL,
+        Number::Is(_) => packed_node(record, walker::node(record, Node(n))),
     }
 }
 
@@ -201,7 +173,7 @@ pub extern "C" fn concoursel_blank(record: &mut [u8]) -> u64
 pub extern "C" fn concoursel_undo_listing(record: &[u8], list: &mut [u16]) -> u64
     ensures { λ r. ⌜ PackedLent (UndoListing (now («record» .entry)) (now (list .entry))) r (now (list .exit)) ⌝ }
 {
-    packed_listing(undos::listing::undo_listing(record, list))
+    packed_number(undos::listing::undo_listing(record, list))
 }
 
 // The waiting list of the key, to the front of the row.
@@ -209,7 +181,7 @@ pub extern "C" fn concoursel_undo_listing(record: &[u8], list: &mut [u16]) -> u6
 pub extern "C" fn concoursel_waiting(record: &[u8], key: u16, list: &mut [u16]) -> u64
     ensures { λ r. ⌜ PackedLent (WaitingList (now («record» .entry)) key (now (list .entry))) r (now (list .exit)) ⌝ }
 {
-    packed_row(waiting::waiting(record, key, list))
+    packed_number(waiting::waiting(record, Key(key), list))
 }
 
 // Soundness: the verdict.

@@ -1,10 +1,10 @@
 // A plain cursor over a record (01, The record): it shows kind, body and depth of each node in preorder, and goes on to the next.
 ghost use Rattle.cursor.specs.At.{Opens, Shows, Goes, DueAt, Made};
-use reader::Count;
 use reader::DEPTH;
 use reader::Head;
-use reader::Node;
 use shared::NO_RECORD;
+use shared::Node;
+use shared::Number;
 
 // The limits of a record, as the cursor's numbers are held.
 const NODES: u16 = reader::NODES as u16;
@@ -37,14 +37,14 @@ pub fn open(bytes: &[u8]) -> Cursor
 {
     let mut due = [0u16; DEPTH];
     match reader::read(bytes) {
-        Count::Refused(c) => Cursor {
+        Number::Refused(c) => Cursor {
             refusal: c,
             at: 0,
             node: Node(0),
             due: due,
             many: 0,
         },
-        Count::Nodes(_) => {
+        Number::Is(_) => {
             due[0] = 1;
             standing(0, 0, due, 1)
         }

@@ -3,7 +3,7 @@ use mathlib.Core.Path.{_≡_, refl, sym, ap, _∙_}
 use mathlib.Core.Logic.{_≢_}
 use mathlib.Core.List.{List, _∷_, _++_}
 use mathlib.Core.Bool.{Bool, true, false, cond, not, _||_, _&&_, Bool·not-not, and-true, and-false, and-assoc}
-use Prim.Native.Nat.{ℕ, _+_, _-_, _≤_}
+use Prim.Native.Nat.{ℕ, _+_, _-_, _≤_, _%_}
 use native.Mathlib.Omega.{arith}
 use borrow.Author.Tests.{eq-eqb, ne-eqb}
 use lib.Dec.{eqb}
@@ -12,10 +12,11 @@ use lib.Seq.{sets, length-sets, set-set, set-getD}
 use Rattle.ccsk.specs.Term.{Term, Node, nil, pre, cho, par, res, size}
 use Rattle.format.specs.Limits.{node-limit}
 use Rattle.format.specs.Read.{keyOf}
-use Rattle.format.specs.Encode.{encode}
+use Rattle.format.specs.Encode.{encode, InRange}
 use Rattle.moves.specs.Move.{holds}
 use Rattle.reader.specs.Head.{body, childCount}
-use Rattle.paths.specs.Rows.{no-action, channel, shown, actions, scopes, sides, ends}
+use Rattle.paths.specs.Rows.{no-action, shown, actions, scopes, sides, ends}
+use Rattle.paths.proofs.Channels.{channel-byte}
 use Rattle.paths.proofs.Lines.{length-actions, length-scopes, length-sides, length-ends}
 use Rattle.index.specs.declared.Span.{Span}
 use Rattle.index.specs.Chart.{Noted, Room, Stands, Charted, Charts}
@@ -74,43 +75,43 @@ module _ (s : List ℕ) (at n kind : ℕ) (e : kind ≡ getD s at 0) (live : Boo
   module _ (table₁ A₁ R₁ S₁ E₁ A₂ R₂ S₂ E₂ : List ℕ) (b r : Span) where
     pub charts-prefix : (done on open-above may : Bool) (action index : ℕ) → kind ≡ 1
         → done ≡ not (eqb (keyOf (getD s (at + 2) 0) (getD s (at + 3) 0)) 0) → on ≡ live && done → open-above ≡ live && not done → may ≡ open-above && not (b .holds)
-        → action ≡ shown may (getD s (at + 1) 0) → index ≡ channel (getD s (at + 1) 0)
+        → action ≡ shown may (getD s (at + 1) 0) → index ≡ getD s (at + 1) 0 % 128
         → Charts s (at + 1 + body kind) (n + 1) on side table A R S E table₁ A₁ R₁ S₁ E₁ b
         → Noted n action (getD table₁ index 0) side (b .end) A₁ R₁ S₁ E₁ A₂ R₂ S₂ E₂
         → r .next ≡ b .next → r .end ≡ b .end → r .holds ≡ done || (b .holds)
         → Charts s at n live side table A R S E table₁ A₂ R₂ S₂ E₂ r
-    charts-prefix done on open-above may action index q d o w m a z C N x y h t T = prefix t (view s at n kind _ e refl t T)
+    charts-prefix done on open-above may action index q d o w m a z C N x y h t T = prefix t (T .range) (view s at n kind _ e refl t T)
       where
-        prefix : (t : Term) → View s at n kind (at + 1 + body kind) t → Charted t at n live side table A R S E table₁ A₂ R₂ S₂ E₂ r
-        prefix nil v = absurd (omega arith)
-        prefix (cho t u) v = absurd (omega arith)
-        prefix (par t u) v = absurd (omega arith)
-        prefix (res a t) v = absurd (omega arith)
-        prefix (pre c k t) v = let F = C t (v .4) in record {
+        prefix : (t : Term) → InRange t → View s at n kind (at + 1 + body kind) t → Charted t at n live side table A R S E table₁ A₂ R₂ S₂ E₂ r
+        prefix nil g v = absurd (omega arith)
+        prefix (cho t u) g v = absurd (omega arith)
+        prefix (par t u) g v = absurd (omega arith)
+        prefix (res a t) g v = absurd (omega arith)
+        prefix (pre c k t) g v = let F = C t (v .4) in record {
           next-is = x ∙ F .next-is ∙ rw (v .0) (unfold encode in omega arith);
           end-is = y ∙ F .end-is ∙ (unfold size in omega arith);
           holds-is = h ∙ rw (d, v .2, F .holds-is) (unfold holds in refl);
           table-is = F .table-is;
           action-row = N .action-is ∙ rw (F .action-row, a, m, w, o, d, v .1, v .2, F .holds-is, Bool·not-not (eqb k 0), and-assoc live (eqb k 0) (not (holds t)))
               (sets-one A n _ (actions (live && not (eqb k 0)) t) ∙ (unfold actions in refl));
-          scope-row = N .scope-is ∙ rw (F .scope-row, F .table-is, z, v .1) (sets-one R n _ (scopes table (n + 1) t) ∙ (unfold scopes in refl));
+          scope-row = N .scope-is ∙ rw (F .scope-row, F .table-is, z, v .1, channel-byte c (g .0)) (sets-one R n _ (scopes table (n + 1) t) ∙ (unfold scopes in refl));
           side-row = N .side-is ∙ rw (F .side-row) (sets-one S n side (sides side (n + 1) t) ∙ (unfold sides in refl));
           end-row = N .end-is ∙ rw (F .end-row, F .end-is) (sets-one E n (n + 1 + size t) (ends (n + 1) t) ∙ (unfold ends in refl));
         }
 
     -- a restriction
-    pub charts-restriction : (a : ℕ) (table₂ : List ℕ) → kind ≢ 1 → childCount kind ≡ 1 → a ≡ getD s (at + 1) 0
+    pub charts-restriction : (a : ℕ) (table₂ : List ℕ) → kind ≢ 1 → childCount kind ≡ 1 → a ≡ getD s (at + 1) 0 % 128
         → Charts s (at + 1 + body kind) (n + 1) live side (set table a (n + 1)) A R S E table₁ A₁ R₁ S₁ E₁ b → table₂ ≡ set table₁ a (getD table a 0)
         → Noted n no-action 0 side (b .end) A₁ R₁ S₁ E₁ A₂ R₂ S₂ E₂ → r ≡ b
         → Charts s at n live side table A R S E table₂ A₂ R₂ S₂ E₂ r
-    charts-restriction a table₂ q o f C w N x t T = restriction t (view s at n kind _ e refl t T)
+    charts-restriction a table₂ q o f C w N x t T = restriction t (T .range) (view s at n kind _ e refl t T)
       where
-        restriction : (t : Term) → View s at n kind (at + 1 + body kind) t → Charted t at n live side table A R S E table₂ A₂ R₂ S₂ E₂ r
-        restriction nil v = absurd (omega (arith, rw v at o))
-        restriction (pre c k t) v = absurd (q (v .0))
-        restriction (cho t u) v = absurd (omega (arith, rw (v .0) at o))
-        restriction (par t u) v = absurd (omega (arith, rw (v .0) at o))
-        restriction (res c t) v = let F = C t (v .3) in let g : a ≡ c = f ∙ v .1 in record {
+        restriction : (t : Term) → InRange t → View s at n kind (at + 1 + body kind) t → Charted t at n live side table A R S E table₂ A₂ R₂ S₂ E₂ r
+        restriction nil h v = absurd (omega (arith, rw v at o))
+        restriction (pre c k t) h v = absurd (q (v .0))
+        restriction (cho t u) h v = absurd (omega (arith, rw (v .0) at o))
+        restriction (par t u) h v = absurd (omega (arith, rw (v .0) at o))
+        restriction (res c t) h v = let F = C t (v .3) in let g : a ≡ c = omega (arith, f, v .1, h .0 .1) in record {
           next-is = rw x (F .next-is ∙ rw (v .0) (unfold encode in omega arith));
           end-is = rw x (F .end-is ∙ (unfold size in omega arith));
           holds-is = rw x (F .holds-is ∙ (unfold holds in refl));

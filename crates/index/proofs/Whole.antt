@@ -15,9 +15,9 @@ use Rattle.format.proofs.Unique.{encode-decode}
 use Rattle.format.proofs.Refusals.{decode-refusals}
 use Rattle.operations.specs.Ask.{ReadRecord}
 use Rattle.reader.proofs.Whole.{record-cases}
-use Rattle.reader.specs.Count.{refusal, nodes}
-use Rattle.reader.specs.declared.Count.{Count}
-use Rattle.reader.specs.declared.Count.the-variants.{Nodes}
+use Rattle.shared.specs.Number.{refusal, value}
+use Rattle.shared.specs.declared.Number.{Number}
+use Rattle.shared.specs.declared.Number.the-variants.{Is}
 use Rattle.paths.specs.Rows.{Holds, no-scopes, actions, scopes, sides, ends}
 use Rattle.paths.proofs.Lines.{length-actions, length-scopes, length-sides, length-ends}
 use Rattle.index.specs.declared.Span.{Span}
@@ -31,12 +31,12 @@ written l x k e h g = record {
   at = λ i j. let z : 0 + i ≡ i = omega arith in rw (z, sets-eq x l 0 (omega arith)) (List·getD-append x (drop (0 + length x) l) 0 i j);
 }
 
-module _ (s : List ℕ) (r : Count) (R : ReadRecord s (refusal r) (nodes r)) where
+module _ (s : List ℕ) (r : Number) (R : ReadRecord s (refusal r) (value r)) where
   -- the term that was read
-  pub was-read : Bytes s → (n : ℕ) → r ≡ Nodes n → (t : Term) × Reads s t × Fits t × (n ≡ size t) × Stands s 0 0 t
+  pub was-read : Bytes s → (n : ℕ) → r ≡ Is n → (t : Term) × Reads s t × Fits t × (n ≡ size t) × Stands s 0 0 t
   was-read B n e = ⊎-elim (λ w. absurd (⊎-elim (λ z. omega arith) (λ z. omega arith) (decode-refusals s 0 (w .0))))
       (λ w. let d = encode-decode s (w .0) B (w .1) in (w .0, w .1, d .1, w .3, stands (w .0) (d .0) (d .1)))
-      (record-cases s 0 n (subst (λ (x : Count). ReadRecord s (refusal x) (nodes x)) e R))
+      (record-cases s 0 n (subst (λ (x : Number). ReadRecord s (refusal x) (value x)) e R))
     where
       stands : (t : Term) → encode t ≡ s → Fits t → Stands s 0 0 t
       stands t q f = record {

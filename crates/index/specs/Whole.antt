@@ -8,8 +8,8 @@ use Rattle.format.specs.Limits.{node-limit}
 use Rattle.format.specs.Read.{Reads, Refuses}
 use Rattle.format.specs.Encode.{Fits}
 use Rattle.paths.specs.Rows.{Indexed}
-use Rattle.reader.specs.declared.Count.{Count}
-use Rattle.reader.specs.declared.Count.the-variants.{Refused, Nodes}
+use Rattle.shared.specs.declared.Number.{Number}
+use Rattle.shared.specs.declared.Number.the-variants.{Refused, Is}
 
 -- The rows are those of the term t, which has n nodes.
 pub record Rows (t : Term) (n : ℕ) (A R S E : List ℕ) : Type 0 where
@@ -26,6 +26,6 @@ abbrev pub SomeRows : ℕ → List ℕ → List ℕ → List ℕ → List ℕ �
 SomeRows n A R S E = (t : Term) × Rows t n A R S E
 
 -- what `index` answers
-abbrev pub Indexes : List ℕ → List ℕ → List ℕ → List ℕ → List ℕ → Count → Type 0
+abbrev pub Indexes : List ℕ → List ℕ → List ℕ → List ℕ → List ℕ → Number → Type 0
 Indexes s A R S E (Refused c) = Refuses s c
-Indexes s A R S E (Nodes n) = (t : Term) × Reads s t × Rows t n A R S E
+Indexes s A R S E (Is n) = (t : Term) × Reads s t × Rows t n A R S E

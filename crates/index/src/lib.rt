@@ -7,24 +7,26 @@ ghost use lib.ListN.{length, replicate};
 ghost use lib.Seq.{sets};
 ghost use Rattle.format.specs.Limits.{node-limit};
 ghost use Rattle.format.specs.Read.{keyOf};
-ghost use Rattle.paths.specs.Rows.{no-action, channel, shown};
+ghost use Rattle.paths.specs.Rows.{no-action, shown};
 ghost use Rattle.index.specs.Chart.{Noted, Room, SomeTerm, Charts};
 ghost use Rattle.index.specs.Whole.{Indexes};
 use reader::CHOICE;
-use reader::Count;
 use reader::NO_ACTION;
 use reader::NODES;
 use reader::PREFIX;
 use reader::body_length;
 use reader::child_count;
 use reader::read;
-use reader::wide;
-use shared::CO;
 use shared::NAMES;
 use shared::NOT_DONE;
+use shared::Name;
+use shared::Number;
 use shared::both;
 use shared::either;
 use shared::key_of;
+use shared::slot;
+use shared::slot_of;
+use shared::wide_byte;
 
 // Where a term ends: the place after its bytes, the node after its last, and whether some prefix of it holds a key.
 pub struct Span {
@@ -42,16 +44,6 @@ fn ended(next: usize, end: usize, holds: bool) -> Span
         end: end,
         holds: holds,
     }
-}
-
-// The name that a label is, or whose co-name it is.
-fn channel_of(a: u8) -> usize
-    ensures { λ r. ⌜ (r ≡ channel a) × (r < 128) ⌝ }
-{
-    if a < CO {
-        return a as usize;
-    }
-    (a - CO) as usize
 }
 
 // Whether a key is not 0.
@@ -147,7 +139,7 @@ fn chart(
     requires { ⌜ (side ≤ n) × Room (now table) (now actions) (now scopes) (now sides) (now ends) ⌝ }
     ensures { λ r. ⌜ Charts (now (s .entry)) at n live side (now (table .entry)) (now (actions .entry)) (now (scopes .entry)) (now (sides .entry)) (now (ends .entry)) (now (table .exit)) (now (actions .exit)) (now (scopes .exit)) (now (sides .exit)) (now (ends .exit)) r ⌝ }
 {
-    let kind = wide(s[at]);
+    let kind = wide_byte(s[at]);
     let next = at + 1 + body_length(kind);
     let i = n + 1;
     if child_count(kind) == 0 {
@@ -160,16 +152,17 @@ fn chart(
         let on = both(live, done);
         let sub = chart(s, next, i, on, side, table, actions, scopes, sides, ends);
         let own = seen(but_not(but_not(live, done), sub.holds), a);
-        let scope = table[channel_of(a)];
+        let scope = table[slot_of(a)];
         note(n, own, scope, side, sub.end, actions, scopes, sides, ends);
         return ended(sub.next, sub.end, either(done, sub.holds));
     }
     if child_count(kind) == 1 {
-        let a = wide(s[at + 1]);
-        let outer = table[a];
-        table[a] = i as u16;
+        let a = s[at + 1];
+        let place = slot(Name(a));
+        let outer = table[place];
+        table[place] = i as u16;
         let sub = chart(s, next, i, live, side, table, actions, scopes, sides, ends);
-        table[a] = outer;
+        table[place] = outer;
         note(n, NO_ACTION, 0, side, sub.end, actions, scopes, sides, ends);
         return sub;
     }
@@ -192,13 +185,13 @@ pub fn index(
     scopes: &mut [u16; NODES],
     sides: &mut [u16; NODES],
     ends: &mut [u16; NODES],
-) -> Count
+) -> Number
     requires { ⌜ (length (now actions) ≡ node-limit) × (length (now scopes) ≡ node-limit) × (length (now sides) ≡ node-limit) × (length (now ends) ≡ node-limit) ⌝ }
     ensures { λ r. ⌜ Indexes (now (bytes .entry)) (now (actions .exit)) (now (scopes .exit)) (now (sides .exit)) (now (ends .exit)) r ⌝ }
 {
     match read(bytes) {
-        Count::Refused(c) => Count::Refused(c),
-        Count::Nodes(n) => {
+        Number::Refused(c) => Number::Refused(c),
+        Number::Is(n) => {
             let mut table = [0u16; NAMES];
             chart(
                 bytes,
@@ -212,7 +205,7 @@ pub fn index(
                 sides,
                 ends,
             );
-            Count::Nodes(n)
+            Number::Is(n)
         }
     }
 }

@@ -15,9 +15,9 @@ use Rattle.operations.specs.Change as change
 use Rattle.keyset.specs.Set.{member, added, Missing, LeastMissing}
 use Rattle.keyset.proofs.Sets.{added-same, added-other}
 use Rattle.keyset.proofs.Steps.{within}
-use Rattle.keys.specs.declared.Number.{Number}
-use Rattle.keys.specs.declared.Number.the-variants.{Refused, Is}
-use Rattle.keys.specs.Number.{refusal, value}
+use Rattle.shared.specs.declared.Number.{Number}
+use Rattle.shared.specs.declared.Number.the-variants.{Refused, Is}
+use Rattle.shared.specs.Number.{refusal, value}
 use Rattle.keys.specs.Gather.{Scanned, Gathered, Cleared}
 use Rattle.keys.proofs.Marks.{not-both}
 

@@ -11,8 +11,8 @@ use Rattle.ccsk.specs.Term.{Term, Key, keys, done, blank}
 use Rattle.format.specs.Read.{Reads, Refuses}
 use Rattle.format.specs.Encode.{encode, Fits}
 use Rattle.keyset.specs.Set.{member}
-use Rattle.keys.specs.declared.Number.{Number}
-use Rattle.keys.specs.declared.Number.the-variants.{Refused, Is}
+use Rattle.shared.specs.declared.Number.{Number}
+use Rattle.shared.specs.declared.Number.the-variants.{Refused, Is}
 
 -- The bytes s are the record of the term t.
 pub record RecordOf (s : List ℕ) (t : Term) : Type 0 where

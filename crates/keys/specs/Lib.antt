@@ -1,3 +1,2 @@
--- What the operations on keys answer, and what their helpers promise each other.
-pub mod Number
+-- What the helpers of the operations on keys promise each other.
 pub mod Gather

@@ -6,21 +6,15 @@ ghost use lib.ListN.{length, getD};
 ghost use Rattle.format.specs.Flat.{keyAt};
 ghost use Rattle.operations.specs.Ask.{KeyCount, FreeKey};
 ghost use Rattle.operations.specs.Change.{BlankForm};
-ghost use Rattle.keys.specs.Number.{refusal, value};
+ghost use Rattle.shared.specs.Number.{refusal, value};
 ghost use Rattle.keys.specs.Gather.{Readable, Holds, Marked, Scanned, Gathered, clearedAt, Cleared};
 use keyset::BYTES;
-use reader::Count;
 use shared::NOT_DONE;
+use shared::Number;
 use shared::key_of;
 
 // The kind of a prefix, as a byte.
 const PREFIX: u8 = reader::PREFIX as u8;
-
-// An answer that is a number: the refusal, or the number.
-pub enum Number {
-    Refused(u8),
-    Is(usize),
-}
 
 // The key that the node at `at` holds; 0 if it is no prefix. A helper between crates: the caller has seen that the node's bytes are there.
 pub fn key_at(bytes: &[u8], at: usize) -> u16
@@ -55,7 +49,7 @@ fn scan(bytes: &[u8], marks: &mut [u8; BYTES]) -> usize
     let mut at: usize = 0;
     let mut n: usize = 0;
     while at < bytes.len() {
-        let kind = reader::wide(bytes[at]);
+        let kind = shared::wide_byte(bytes[at]);
         n += mark(marks, key_at(bytes, at));
         at += 1 + body[kind];
     }
@@ -68,8 +62,8 @@ fn gather(bytes: &[u8], marks: &mut [u8; BYTES]) -> Number
     ensures { λ r. ⌜ Gathered (now (bytes .entry)) (now (marks .exit)) r ⌝ }
 {
     match reader::read(bytes) {
-        Count::Refused(c) => Number::Refused(c),
-        Count::Nodes(_) => Number::Is(scan(bytes, marks)),
+        Number::Refused(c) => Number::Refused(c),
+        Number::Is(_) => Number::Is(scan(bytes, marks)),
     }
 }
 
@@ -117,7 +111,7 @@ fn wipe(bytes: &mut [u8], marks: &mut [u8; BYTES]) -> usize
     let mut at: usize = 0;
     let mut n: usize = 0;
     while at < bytes.len() {
-        let kind = reader::wide(bytes[at]);
+        let kind = shared::wide_byte(bytes[at]);
         n += mark(marks, key_at(bytes, at));
         clear_at(bytes, at);
         at += 1 + body[kind];
@@ -129,11 +123,9 @@ fn wipe(bytes: &mut [u8], marks: &mut [u8; BYTES]) -> usize
 pub fn blank(bytes: &mut [u8]) -> Number
     ensures { λ r. ⌜ BlankForm (now (bytes .entry)) (refusal r) (value r) (now (bytes .exit)) ⌝ }
 {
+    let mut marks = [0u8; BYTES];
     match reader::read(bytes) {
-        Count::Refused(r) => Number::Refused(r),
-        Count::Nodes(_) => {
-            let mut marks = [0u8; BYTES];
-            Number::Is(wipe(bytes, &mut marks))
-        }
+        Number::Refused(r) => Number::Refused(r),
+        Number::Is(_) => Number::Is(wipe(bytes, &mut marks)),
     }
 }

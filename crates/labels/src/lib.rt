@@ -78,7 +78,7 @@ pub fn undo_labels(bytes: &[u8], row: &[u16], count: usize, labels: &mut [u8; NO
     let body = reader::BODY;
     let mut at: usize = 0;
     while at < bytes.len() {
-        let kind = reader::wide(bytes[at]);
+        let kind = shared::wide_byte(bytes[at]);
         pass(bytes, at, row, count, labels);
         at += 1 + body[kind];
     }

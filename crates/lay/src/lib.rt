@@ -6,8 +6,11 @@ use reader::PREFIX;
 use reader::RESTRICTION;
 use reader::body_length;
 use reader::child_count;
-use reader::wide;
 use shared::NAMES;
+use shared::Name;
+use shared::slot;
+use shared::slot_of;
+use shared::wide_byte;
 ghost use mathlib.Core.Path.{_≡_};
 ghost use Prim.Native.Nat.{_+_, _<_, _%_};
 ghost use lib.ListN.{length, getD, set};
@@ -21,13 +24,6 @@ pub struct Place {
     pub at: usize,
     pub node: usize,
     pub row: usize,
-}
-
-// The place of an action or a name in the table of nearest restrictions.
-fn channel(action: u8) -> usize
-    ensures { λ r. ⌜ r ≡ action % 128 ⌝ }
-{
-    wide(action) % NAMES
 }
 
 // Writes a row but for its end.
@@ -47,7 +43,7 @@ fn note(
 {
     keys[row] = key;
     actions[row] = action;
-    scopes[row] = nearest[channel(action)];
+    scopes[row] = nearest[slot_of(action)];
     ups[row] = up;
 }
 
@@ -70,7 +66,7 @@ fn lay(
     let at = here.at;
     let row = here.row;
     let below = here.node + 1;
-    let kind = wide(s[at]);
+    let kind = wide_byte(s[at]);
     let mut child = Place {
         at: at + (1 + body_length(kind)),
         node: below,
@@ -88,11 +84,12 @@ fn lay(
         return end;
     }
     if kind == RESTRICTION {
-        let name = channel(s[at + 1]);
-        let outer = nearest[name];
-        nearest[name] = below as u16;
+        let a = s[at + 1];
+        let place = slot(Name(a));
+        let outer = nearest[place];
+        nearest[place] = below as u16;
         let end = lay(s, child, up, keys, actions, ends, scopes, ups, nearest);
-        nearest[name] = outer;
+        nearest[place] = outer;
         return end;
     }
     if child_count(kind) == 0 {

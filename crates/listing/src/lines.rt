@@ -4,24 +4,22 @@ use crate::out::flush;
 use crate::out::put;
 use crate::out::put_number;
 use index::index;
-use keys::Number;
 use labels::undo_labels;
 use links::link;
-use reader::Count;
 use reader::NO_ACTION;
 use reader::NODES;
-use reader::Node;
 use search::First;
 use search::next_step;
 use search::settle;
-use undos::listing::Rows;
+use shared::Node;
+use shared::Number;
 use undos::listing::undo_listing;
 ghost use mathlib.Core.Path.{_≡_};
 ghost use Prim.Native.Nat.{_≤_};
 ghost use lib.ListN.{length};
 ghost use Rattle.format.specs.Limits.{node-limit};
 ghost use Rattle.operations.specs.Ask.{ReadRecord};
-ghost use Rattle.reader.specs.Count.{refusal, nodes};
+ghost use Rattle.shared.specs.Number.{refusal, value};
 ghost use Rattle.index.specs.Whole.{SomeRows};
 ghost use Rattle.search.specs.Scan.{Settled};
 
@@ -134,8 +132,8 @@ fn put_allowed(space: &mut [u8], n: usize, bytes: &[u8]) -> usize
     let mut keys = [0u16; NODES];
     let row: &mut [u16] = &mut keys;
     match undo_listing(bytes, row) {
-        Rows::Refused(_) => n,
-        Rows::Listed(count) => {
+        Number::Refused(_) => n,
+        Number::Is(count) => {
             let mut labels = [NO_ACTION; NODES];
             undo_labels(bytes, row, count, &mut labels);
             put_undos(space, n, row, &labels, count)
@@ -169,8 +167,8 @@ fn put_counts(space: &mut [u8], bytes: &[u8], nodes: usize) -> usize
 
 // Writes all lines of a record, or its refusal, and answers which: the refusal, or the number of nodes. The record is indexed and linked
 // once, and each step is asked for where the last one stood.
-pub fn list(bytes: &[u8]) -> Count
-    ensures { λ r. ⌜ ReadRecord (now (bytes .entry)) (refusal r) (nodes r) ⌝ }
+pub fn list(bytes: &[u8]) -> Number
+    ensures { λ r. ⌜ ReadRecord (now (bytes .entry)) (refusal r) (value r) ⌝ }
 {
     let mut room = [0u8; SPACE];
     let space: &mut [u8] = &mut room;
@@ -179,11 +177,11 @@ pub fn list(bytes: &[u8]) -> Count
     let mut sides = [0u16; NODES];
     let mut ends = [0u16; NODES];
     match index(bytes, &mut actions, &mut scopes, &mut sides, &mut ends) {
-        Count::Refused(c) => {
+        Number::Refused(c) => {
             list_refused(space, c);
-            Count::Refused(c)
+            Number::Refused(c)
         }
-        Count::Nodes(n) => {
+        Number::Is(n) => {
             let mut twins = [0u16; NODES];
             let mut partners = [0u16; NODES];
             link(&actions, &scopes, n, &mut twins, &mut partners);
@@ -202,7 +200,7 @@ pub fn list(bytes: &[u8]) -> Count
             );
             let c = put_allowed(space, b, bytes);
             flush(space, c);
-            Count::Nodes(n)
+            Number::Is(n)
         }
     }
 }

@@ -1,7 +1,7 @@
 -- Labels of one channel: what complementary labels share, and what a restriction stops.
 use mathlib.Core.Path.{_≡_, sym, _∙_}
 use mathlib.Core.Logic.{inl, inr, ⊎-elim, _≢_}
-use Prim.Native.Nat.{ℕ, _-_, _<_, _≤_}
+use Prim.Native.Nat.{ℕ, _-_, _<_, _≤_, _%_}
 use native.Mathlib.Decide.{decLt}
 use native.Mathlib.Omega.{arith}
 use borrow.Author.Tests.{lt-ltb, le-ltb}
@@ -13,6 +13,14 @@ channel-low l h = rw (lt-ltb l 128 h)
 
 pub channel-high : (l : ℕ) → 128 ≤ l → channel l ≡ l - 128
 channel-high l h = rw (le-ltb l 128 h)
+
+-- the channel of a byte is its place in a table by names
+pub channel-byte : (l : ℕ) → l ≤ 255 → l % 128 ≡ channel l
+channel-byte l h = pick (decLt l 128)
+  where
+    pick : Dec (l < 128) → l % 128 ≡ channel l
+    pick (yes i) = (omega arith) ∙ sym (channel-low l i)
+    pick (no i) = let g : 128 ≤ l = omega arith in (omega arith) ∙ sym (channel-high l g)
 
 -- complementary labels have the same channel
 pub co-channel : (l k : ℕ) → Co l k → channel l ≡ channel k

@@ -5,9 +5,11 @@ ghost use lib.ListN.{length};
 ghost use Rattle.operations.specs.Ask.{ReadRecord};
 ghost use Rattle.reader.specs.Head.{body, childCount, Tables, Headed};
 ghost use Rattle.reader.specs.Walk.{Due};
-ghost use Rattle.reader.specs.Count.{refusal, nodes};
+ghost use Rattle.shared.specs.Number.{refusal, value};
 use shared::NO_RECORD;
+use shared::Number;
 use shared::OVER_LIMIT;
+use shared::wide_byte;
 
 // The limits of a record: nodes, and levels.
 pub const NODES: usize = 4096;
@@ -39,13 +41,6 @@ pub const NO_ACTION: u8 = 128;
 
 pub const LAST_NAME: u8 = 127;
 
-// A key, a node number and a name are three things, so that none is read as another.
-pub struct Key(pub u16);
-
-pub struct Node(pub u16);
-
-pub struct Name(pub u8);
-
 // What stands at a place: a refusal, or a node with so many children, whose body ends at `next`.
 pub enum Head {
     Refused(u8),
@@ -54,19 +49,6 @@ pub enum Head {
         children: usize,
         next: usize,
     },
-}
-
-// What a whole record comes to: a refusal, or the number of its nodes.
-pub enum Count {
-    Refused(u8),
-    Nodes(usize),
-}
-
-// A byte as an index.
-pub fn wide(x: u8) -> usize
-    ensures { λ r. ⌜ r ≡ x ⌝ }
-{
-    x as usize
 }
 
 // How many bytes the body of a node of a known kind has.
@@ -90,7 +72,7 @@ pub fn node_at(s: &[u8], at: usize, bodies: &[usize; KINDS], families: &[usize; 
     requires { ⌜ (at < length (now s)) × Tables (now bodies) (now families) ⌝ }
     ensures { λ r. ⌜ Headed (now (s .entry)) at r ⌝ }
 {
-    let kind = wide(s[at]);
+    let kind = wide_byte(s[at]);
     if RESTRICTION < kind {
         return Head::Refused(NO_RECORD);
     }
@@ -145,8 +127,8 @@ pub fn node_due(
 
 // The number of nodes of the record that the bytes are, or the refusal. `due` is a stack: how many levels each of the `many` terms
 // that are due may have, the next term's last. A node's children take its place there, with a level less.
-pub fn read(bytes: &[u8]) -> Count
-    ensures { λ r. ⌜ ReadRecord (now (bytes .entry)) (refusal r) (nodes r) ⌝ }
+pub fn read(bytes: &[u8]) -> Number
+    ensures { λ r. ⌜ ReadRecord (now (bytes .entry)) (refusal r) (value r) ⌝ }
 {
     let bodies = BODY;
     let families = CHILDREN;
@@ -159,7 +141,7 @@ pub fn read(bytes: &[u8]) -> Count
         let levels = due[top];
         match node_due(bytes, at, levels, left, &bodies, &families) {
             Head::Refused(c) => {
-                return Count::Refused(c);
+                return Number::Refused(c);
             }
             Head::Node {
                 kind: _,
@@ -176,7 +158,7 @@ pub fn read(bytes: &[u8]) -> Count
         }
     }
     if at < bytes.len() {
-        return Count::Refused(NO_RECORD);
+        return Number::Refused(NO_RECORD);
     }
-    Count::Nodes(NODES - left)
+    Number::Is(NODES - left)
 }

@@ -5,19 +5,19 @@ use Prim.Native.Nat.{ℕ}
 use Rattle.ccsk.specs.Term.{Term, Node}
 use Rattle.format.specs.Read.{Reads, Refuses}
 use Rattle.operations.specs.Ask.{FirstStep, FirstStep.none, FirstStep.found}
-use Rattle.reader.specs.declared.Count.{Count}
-use Rattle.reader.specs.declared.Count.the-variants as count
+use Rattle.shared.specs.declared.Number.{Number}
+use Rattle.shared.specs.declared.Number.the-variants as number
 use Rattle.index.specs.Whole.{Rows, Indexes}
 use Rattle.search.specs.declared.First.{First}
 use Rattle.search.specs.declared.First.the-variants.{Refused, None, Found}
 use Rattle.search.specs.First as answer
 
 -- what `index` has answered, once its case is known
-module _ (s A R S E : List ℕ) (r : Count) (I : Indexes s A R S E r) where
-  pub index-refused : (c : ℕ) → r ≡ count.Refused c → Refuses s c
+module _ (s A R S E : List ℕ) (r : Number) (I : Indexes s A R S E r) where
+  pub index-refused : (c : ℕ) → r ≡ number.Refused c → Refuses s c
   index-refused c e = subst (Indexes s A R S E) e I
 
-  pub index-filled : (n : ℕ) → r ≡ count.Nodes n → (t : Term) × Reads s t × Rows t n A R S E
+  pub index-filled : (n : ℕ) → r ≡ number.Is n → (t : Term) × Reads s t × Rows t n A R S E
   index-filled n e = subst (Indexes s A R S E) e I
 
 pub first-answer : (s : List ℕ) (t : Term) (p q : Node) → Reads s t → (r : First) → answer.NextOf t p q r

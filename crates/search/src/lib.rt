@@ -13,10 +13,10 @@ ghost use Rattle.search.specs.Scan.{Agrees, Settled, Seeks, LowSides, Cl
 use index::index;
 use links::link;
 use links::turned;
-use reader::Count;
 use reader::NO_ACTION;
 use reader::NODES;
-use reader::Node;
+use shared::Node;
+use shared::Number;
 use shared::wide;
 
 // The answer: a refusal, none, or the places and the label of the first step.
@@ -217,8 +217,8 @@ pub fn first_step(record: &[u8], p: Node, q: Node) -> First
     let mut sides = [0u16; NODES];
     let mut ends = [0u16; NODES];
     match index(record, &mut actions, &mut scopes, &mut sides, &mut ends) {
-        Count::Refused(c) => First::Refused(c),
-        Count::Nodes(n) => {
+        Number::Refused(c) => First::Refused(c),
+        Number::Is(n) => {
             let mut twins = [0u16; NODES];
             let mut partners = [0u16; NODES];
             link(&actions, &scopes, n, &mut twins, &mut partners);

@@ -1,2 +1,3 @@
--- What a test answers.
+-- What a test tells (Tells), and the answer that is a number (Number).
 pub mod Tells
+pub mod Number

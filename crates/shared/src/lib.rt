@@ -1,10 +1,24 @@
-// What several crates share: the numbers of labels, keys and refusals, numbers as indices, and tests that combine.
+// What several crates share: keys, node numbers and names, the numbers of labels and refusals, the answer that is a number, numbers as
+// indices, and tests that combine.
 ghost use mathlib.Core.Path.{_≡_};
 ghost use mathlib.Core.Bool.{_&&_, _||_};
-ghost use Prim.Native.Nat.{_<_};
+ghost use Prim.Native.Nat.{_<_, _%_};
 ghost use Rattle.ccsk.specs.Term.{Co};
 ghost use Rattle.format.specs.Read.{keyOf};
 ghost use Rattle.shared.specs.Tells.{Tells};
+
+// A key, a node number and a name are three things, so that none is read as another.
+pub struct Key(pub u16);
+
+pub struct Node(pub u16);
+
+pub struct Name(pub u8);
+
+// An answer that is a number: the refusal, or the number of nodes, of keys, of places written, or whatever was asked for.
+pub enum Number {
+    Refused(u8),
+    Is(usize),
+}
 
 // Labels (01, The record): tau, and what a co-name adds to its name. That number itself is no action.
 pub const TAU: u8 = 0;
@@ -44,6 +58,13 @@ pub const NO_UNDO: u8 = 8;
 // The lent row is shorter than the list.
 pub const SHORT_ROW: u8 = 9;
 
+// A byte as an index.
+pub fn wide_byte(x: u8) -> usize
+    ensures { λ r. ⌜ r ≡ x ⌝ }
+{
+    x as usize
+}
+
 // A 16-bit number as an index.
 pub fn wide(x: u16) -> usize
     ensures { λ r. ⌜ r ≡ x ⌝ }
@@ -57,6 +78,20 @@ pub fn narrow(x: usize) -> u16
     ensures { λ r. ⌜ r ≡ x ⌝ }
 {
     x as u16
+}
+
+// A name's place in a table by names.
+pub fn slot(name: Name) -> usize
+    ensures { λ r. ⌜ r ≡ name .0 % 128 ⌝ }
+{
+    wide_byte(name.0) % NAMES
+}
+
+// A label's place there: that of the name that it is, or whose co-name it is.
+pub fn slot_of(label: u8) -> usize
+    ensures { λ r. ⌜ r ≡ label % 128 ⌝ }
+{
+    wide_byte(label) % NAMES
 }
 
 // Whether at least one of the two holds.

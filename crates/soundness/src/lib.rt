@@ -1,12 +1,12 @@
 // Soundness of a record (01, Soundness): its verdict, 0 to 7.
 use folds::Whole;
 use folds::fold_all;
-use keys::Number;
 use reader::NODES;
+use shared::Number;
 use verdict::ordering;
 use verdict::pairing;
 ghost use lib.ListN.{length};
-ghost use Rattle.keys.specs.Number.{refusal, value};
+ghost use Rattle.shared.specs.Number.{refusal, value};
 ghost use Rattle.operations.specs.Ask.{Soundness};
 ghost use Rattle.soundness.specs.Judge.{Fair, Judged, Spread, Settled, Slotted, Decided, Room};
 
@@ -119,7 +119,7 @@ pub fn verdict(record: &[u8]) -> Number
             if !marks.chosen {
                 return Number::Is(NOT_CHOSEN);
             }
-            Number::Is(reader::wide(judge(record)))
+            Number::Is(shared::wide_byte(judge(record)))
         }
     }
 }

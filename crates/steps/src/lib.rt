@@ -1,13 +1,13 @@
 // The two operations that change a record by a step: forward and undo. Each plans on the bytes as they are, and then writes; a refusal writes nothing.
-use reader::Key;
-use reader::Node;
 use shared::KEY_ABSENT;
 use shared::KEY_STANDS;
 use shared::KEY_ZERO;
+use shared::Key;
 use shared::NO_PLACES;
 use shared::NO_STEP;
 use shared::NO_UNDO;
 use shared::NOT_DONE;
+use shared::Node;
 use shared::wide;
 use survey::pass::Whole;
 use survey::pass::survey_all;

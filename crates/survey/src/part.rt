@@ -9,6 +9,7 @@ use crate::seen::over_parallel;
 use crate::seen::over_prefix;
 use crate::seen::over_restriction;
 use shared::NOT_DONE;
+use shared::Name;
 use shared::either;
 ghost use Prim.Native.Nat.{ℕ, _+_, _<_};
 ghost use Rattle.ccsk.specs.Term.{nil};
@@ -61,8 +62,8 @@ pub fn at_prefix(ask: Ask, at: u16, n: u16, action: u8, key: u16, below: Seen) -
 }
 
 // What is found of a restriction on the name.
-pub fn at_restriction(name: u8, below: Seen) -> Seen
-    ensures { λ r. ⌜ ((ask : Ask) (i n : ℕ) → OverRestriction ask i n name below r) ⌝ }
+pub fn at_restriction(name: Name, below: Seen) -> Seen
+    ensures { λ r. ⌜ ((ask : Ask) (i n : ℕ) → OverRestriction ask i n (name .0) below r) ⌝ }
 {
     let under = below.moved;
     let moved = over_restriction(name, under);

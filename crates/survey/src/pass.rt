@@ -13,6 +13,7 @@ use reader::PARALLEL;
 use reader::PREFIX;
 use reader::node_due;
 use shared::NO_RECORD;
+use shared::Name;
 use shared::key_of;
 use shared::narrow;
 use shared::wide;
@@ -45,7 +46,8 @@ fn at_one(s: &[u8], at: usize, kind: usize, n: usize, ask: Ask, below: Seen) -> 
         let key = key_of(s[at + 2], s[at + 3]);
         return at_prefix(ask, narrow(at), narrow(n), s[at + 1], key, below);
     }
-    at_restriction(s[at + 1], below)
+    let a = s[at + 1];
+    at_restriction(Name(a), below)
 }
 
 // What a pass over the term at `at` comes to: at most `deep` levels and `left` nodes may come, so its root is node NODES - left.

@@ -2,6 +2,7 @@
 use reader::LAST_NAME;
 use shared::CO;
 use shared::NOT_DONE;
+use shared::Name;
 use shared::TAU;
 use shared::complementary;
 ghost use mathlib.Core.Path.{_≡_};
@@ -94,19 +95,20 @@ pub fn over_prefix(chosen: bool, may: bool, done: bool, any: bool, action: u8, b
 }
 
 // Whether the label is this name or its co-name. What is no name has no label on it.
-pub fn is_on(name: u8, l: u8) -> bool
-    ensures { λ r. ⌜ Tells r (On name l) ⌝ }
+pub fn is_on(name: Name, l: u8) -> bool
+    ensures { λ r. ⌜ Tells r (On (name .0) l) ⌝ }
 {
-    if name == 0 {
+    let a = name.0;
+    if a == 0 {
         return false;
     }
-    if LAST_NAME < name {
+    if LAST_NAME < a {
         return false;
     }
-    if l == name {
+    if l == a {
         return true;
     }
-    l == name + CO
+    l == a + CO
 }
 
 // The move of a choice, from whether each side holds a key and the moves of the sides.
@@ -159,8 +161,8 @@ pub fn over_parallel(left: Move, right: Move) -> Move
 }
 
 // The move of a restriction, from the move below it.
-pub fn over_restriction(name: u8, below: Move) -> Move
-    ensures { λ r. ⌜ moveOf r ≡ overRestriction name (moveOf below) ⌝ }
+pub fn over_restriction(name: Name, below: Move) -> Move
+    ensures { λ r. ⌜ moveOf r ≡ overRestriction (name .0) (moveOf below) ⌝ }
 {
     match below {
         Move::Still => Move::Still,

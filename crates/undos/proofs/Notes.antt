@@ -3,7 +3,7 @@ use mathlib.Core.Path.{_≡_, refl, sym, subst, _∙_}
 use mathlib.Core.Logic.{_≢_}
 use mathlib.Core.List.{List, [], _∷_, _++_, append-nil, append-assoc}
 use mathlib.Core.Bool.{Bool, true, false, cond, not, _||_}
-use Prim.Native.Nat.{ℕ, zero, suc, _+_, _<_, _≤_, _%_}
+use Prim.Native.Nat.{ℕ, zero, suc, _+_, _<_, _≤_}
 use native.Mathlib.Decide.{ℕ-discrete}
 use native.Mathlib.Omega.{arith}
 use borrow.Author.Tests.{eq-eqb, ne-eqb}
@@ -47,14 +47,14 @@ module _ (s : List ℕ) (at kind : ℕ) (n : Node) (k : ℕ) (all : List ℕ) (s
     sizes = (length-set all k m, refl);
   }
 
-  pub enter-restriction : (r : Entered) (w : ℕ) → kind ≡ 4 → w ≡ name-at s at → r .keys ≡ k → r .scope ≡ getD scopes (w % 128) 0 → Enters s at kind n k all all scopes (set scopes (w % 128) (n + 1)) r
+  pub enter-restriction : (r : Entered) (w : ℕ) → kind ≡ 4 → w ≡ slot (name-at s at) → r .keys ≡ k → r .scope ≡ getD scopes w 0 → Enters s at kind n k all all scopes (set scopes w (n + 1)) r
   enter-restriction r w q e i j = record {
     noted = λ p. absurd (omega arith);
     counted = λ p. absurd (omega arith);
     other = λ p. (i, refl);
     opened = λ p. (rw e, rw (← e) j);
     unopened = λ p. absurd (p q);
-    sizes = (refl, length-set scopes (w % 128) (n + 1));
+    sizes = (refl, length-set scopes w (n + 1));
   }
 
   pub enter-two : (r : Entered) → kind ≢ 1 → kind ≢ 4 → r .keys ≡ k → Enters s at kind n k all all scopes scopes r
@@ -75,13 +75,13 @@ module _ (s : List ℕ) (at k₀ k l₀ l : ℕ) (kc ac sc : List ℕ) (scopes :
   pub over-below : m ≢ 0 → k ≢ k₀ → OverPrefix s at k₀ k l₀ l (rows kc ac sc) scopes l (rows kc ac sc)
   over-below z h old x p q t = rw (ne-eqb (key-at s at) 0 (λ y. z (e ∙ y)), ne-eqb k k₀ h) (t, q)
 
-  pub over-own : (a w v : ℕ) → m ≢ 0 → k ≡ k₀ → l₀ < length (rows kc ac sc) → a ≡ name-at s at → w ≡ name-at s at → v ≡ getD scopes (w % 128) 0
+  pub over-own : (a w v : ℕ) → m ≢ 0 → k ≡ k₀ → l₀ < length (rows kc ac sc) → a ≡ name-at s at → w ≡ slot (name-at s at) → v ≡ getD scopes w 0
       → OverPrefix s at k₀ k l₀ l (rows kc ac sc) scopes (l₀ + 1) (rows (set kc l₀ m) (set ac l₀ a) (set sc l₀ v))
   over-own a w v z h i b f g old x p q t = rw (rows-set kc ac sc l₀ m a v, ne-eqb (key-at s at) 0 (λ y. z (e ∙ y)), eq-eqb k k₀ h, ← e, ← b, g, f, ← b)
       (push l₀ (rows kc ac sc) old _ i (cut-back l₀ l (rows kc ac sc) old x p (omega arith) t), omega arith)
 
 -- a scope put back
-pub closes : (s : List ℕ) (at w v : ℕ) (scopes : Scopes) → w ≡ name-at s at → set scopes (w % 128) v ≡ closed (name-at s at) v scopes
+pub closes : (s : List ℕ) (at w v : ℕ) (scopes : Scopes) → w ≡ slot (name-at s at) → set scopes w v ≡ closed (name-at s at) v scopes
 closes s at w v scopes e = rw e
 
 -- the lasts that stay at a choice or a parallel

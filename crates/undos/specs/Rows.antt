@@ -1,4 +1,4 @@
--- The refusal number and the count of a listing's answer (01, Operations and their refusals), and what one step of writing leaves of a row.
+-- What one step of writing leaves of a row, and what stands in it at the end.
 use mathlib.Core.Path.{_≡_}
 use mathlib.Core.List.{List, _++_}
 use Prim.Native.Nat.{ℕ, _+_}
@@ -7,19 +7,7 @@ use Rattle.ccsk.specs.Numbers.{Lists}
 use Rattle.ccsk.specs.Term.{Key}
 use Rattle.lasts.specs.Last.{Last, only, Ready}
 use Rattle.operations.specs.Ask.{Filled}
-use Rattle.undos.specs.declared.listing.Rows.{Rows}
-use Rattle.undos.specs.declared.listing.Rows.the-variants.{Refused, Listed}
 use Rattle.undos.specs.Group.{times, listed}
-
--- the refusal number; 0 where the list was written
-abbrev pub refusal : Rows → ℕ
-refusal (Refused c) = c
-refusal (Listed n) = 0
-
--- how many places were filled; 0 where it was refused
-abbrev pub count : Rows → ℕ
-count (Refused c) = 0
-count (Listed n) = n
 
 -- what stands in the row after rank r, if what comes before stands there already
 abbrev pub Put : List ℕ → List ℕ → ℕ → List ℕ → ℕ → ℕ → List ℕ → Type 0

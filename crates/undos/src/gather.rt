@@ -6,9 +6,11 @@ use reader::NODES;
 use reader::PREFIX;
 use reader::RESTRICTION;
 use reader::node_due;
-use reader::wide;
 use shared::NAMES;
+use shared::Name;
 use shared::key_of;
+use shared::slot;
+use shared::slot_of;
 ghost use mathlib.Core.Path.{_≡_};
 ghost use Prim.Native.Nat.{_+_, _≤_, _<_};
 ghost use lib.ListN.{length, getD};
@@ -58,9 +60,10 @@ fn enter(
         };
     }
     if kind == RESTRICTION {
-        let slot = wide(s[at + 1]) % NAMES;
-        let outer = scopes[slot];
-        scopes[slot] = (n + 1) as u16;
+        let a = s[at + 1];
+        let place = slot(Name(a));
+        let outer = scopes[place];
+        scopes[place] = (n + 1) as u16;
         return Entered {
             keys: keys,
             scope: outer,
@@ -77,8 +80,9 @@ fn close(s: &[u8], at: usize, outer: u16, scopes: &mut [u16; NAMES])
     requires { ⌜ (at + 1 < length (now s)) × (length (now scopes) ≡ 128) ⌝ }
     ensures { λ _. ⌜ now (scopes .exit) ≡ closed (getD (now (s .entry)) (at + 1) 0) outer (now (scopes .entry)) ⌝ }
 {
-    let slot = wide(s[at + 1]) % NAMES;
-    scopes[slot] = outer;
+    let a = s[at + 1];
+    let place = slot(Name(a));
+    scopes[place] = outer;
 }
 
 // How many lasts stay when the prefix at `at` is left. Before its child there were `keys` keys and `lasts` lasts, now there are `k` and `l`.
@@ -105,7 +109,7 @@ fn over_prefix(
     if k == keys {
         key[lasts] = own;
         action[lasts] = s[at + 1];
-        scope[lasts] = scopes[wide(s[at + 1]) % NAMES];
+        scope[lasts] = scopes[slot_of(s[at + 1])];
         return lasts + 1;
     }
     l

@@ -10,6 +10,7 @@ use reader::DEPTH;
 use reader::NODES;
 use shared::NAMES;
 use shared::NO_RECORD;
+use shared::Number;
 use shared::SHORT_ROW;
 ghost use mathlib.Core.Path.{_≡_};
 ghost use mathlib.Core.List.{List, _++_};
@@ -18,14 +19,9 @@ ghost use lib.ListN.{length, getD, take, drop};
 ghost use Rattle.format.specs.Limits.{node-limit};
 ghost use Rattle.operations.specs.Ask.{UndoListing};
 ghost use Rattle.undos.specs.Group.{Small, Positive, AllAmong, listed};
-ghost use Rattle.undos.specs.Rows.{refusal, count, Put, Lines};
+ghost use Rattle.shared.specs.Number.{refusal, value};
+ghost use Rattle.undos.specs.Rows.{Put, Lines};
 ghost use Rattle.undos.specs.Gather.{rows};
-
-// The answer of a listing: a refusal number, or how many places of the row were filled.
-pub enum Rows {
-    Refused(u8),
-    Listed(usize),
-}
 
 // How many of the first n ranks are ready.
 fn count_ready(state: &[u8; NODES], n: usize) -> usize
@@ -88,10 +84,10 @@ fn list(
     scope: &[u16; NODES],
     n: usize,
     row: &mut [u16],
-) -> Rows
+) -> Number
     requires { ⌜ (length (now all) ≡ node-limit) × (m ≤ node-limit) × Small (take m (now all)) × Positive (take m (now all)) ⌝ }
     requires { ⌜ (length (now key) ≡ node-limit) × (length (now action) ≡ node-limit) × (length (now scope) ≡ node-limit) × (n ≤ node-limit) × AllAmong (take m (now all)) (take n (rows (now key) (now action) (now scope))) ⌝ }
-    ensures { λ r. ⌜ Lines (take m (now (all .entry))) (take n (rows (now (key .entry)) (now (action .entry)) (now (scope .entry)))) (now (row .entry)) (refusal r) (count r) (now (row .exit)) ⌝ }
+    ensures { λ r. ⌜ Lines (take m (now (all .entry))) (take n (rows (now (key .entry)) (now (action .entry)) (now (scope .entry)))) (now (row .entry)) (refusal r) (value r) (now (row .exit)) ⌝ }
 {
     let mut marks = [0u8; BYTES];
     mark_all(all, m, &mut marks);
@@ -101,15 +97,15 @@ fn list(
     settle(all, m, key, action, scope, n, &marks, &base, &mut state);
     let count = count_ready(&state, total);
     if row.len() < count {
-        return Rows::Refused(SHORT_ROW);
+        return Number::Refused(SHORT_ROW);
     }
     write_ready(&state, all, total, row);
-    Rows::Listed(count)
+    Number::Is(count)
 }
 
 // The keys of the record whose undo is allowed, ascending, to the front of the row.
-pub fn undo_listing(bytes: &[u8], row: &mut [u16]) -> Rows
-    ensures { λ r. ⌜ UndoListing (now (bytes .entry)) (now (row .entry)) (refusal r) (count r) (now (row .exit)) ⌝ }
+pub fn undo_listing(bytes: &[u8], row: &mut [u16]) -> Number
+    ensures { λ r. ⌜ UndoListing (now (bytes .entry)) (now (row .entry)) (refusal r) (value r) (now (row .exit)) ⌝ }
 {
     let mut all = [0u16; NODES];
     let mut key = [0u16; NODES];
@@ -133,10 +129,10 @@ pub fn undo_listing(bytes: &[u8], row: &mut [u16]) -> Rows
         &bodies,
         &families,
     ) {
-        Outcome::Refused(c) => Rows::Refused(c),
+        Outcome::Refused(c) => Number::Refused(c),
         Outcome::Part(next, _, keys, lasts) => {
             if next < bytes.len() {
-                return Rows::Refused(NO_RECORD);
+                return Number::Refused(NO_RECORD);
             }
             list(&mut all, keys, &key, &action, &scope, lasts, row)
         }

@@ -3,13 +3,13 @@ ghost use mathlib.Core.List.{[]};
 ghost use Prim.Native.Nat.{_<_, _≤_};
 ghost use Rattle.operations.specs.Ask.{WaitingList};
 ghost use Rattle.keys.specs.Gather.{Readable, Holds};
-ghost use Rattle.rows.specs.Row.{refusal, count};
+ghost use Rattle.shared.specs.Number.{refusal, value};
 ghost use Rattle.waiting.specs.Below.{Stands, MetBy, ToMark, DueAfter, MarkedBelow};
 use keyset::BYTES;
-use reader::Count;
-use rows::Row;
 use shared::KEY_ABSENT;
 use shared::KEY_ZERO;
+use shared::Key;
+use shared::Number;
 
 // What passing over a record comes to: whether the key was met, and how many different keys stand below it.
 struct Passed {
@@ -70,7 +70,7 @@ fn mark_below(bytes: &[u8], key: u16, marks: &mut [u8; BYTES]) -> Passed
     let mut met = false;
     let mut n: usize = 0;
     while at < bytes.len() {
-        let kind = reader::wide(bytes[at]);
+        let kind = shared::wide_byte(bytes[at]);
         let here = keys::key_at(bytes, at);
         n += keys::mark(marks, to_mark(due, here, key));
         met = met_by(met, here, key);
@@ -81,27 +81,27 @@ fn mark_below(bytes: &[u8], key: u16, marks: &mut [u8; BYTES]) -> Passed
 }
 
 // The waiting list of a key in a readable record.
-fn list_waiting(bytes: &[u8], key: u16, row: &mut [u16]) -> Row
+fn list_waiting(bytes: &[u8], key: u16, row: &mut [u16]) -> Number
     requires { ⌜ Readable (now bytes) ⌝ }
-    ensures { λ r. ⌜ WaitingList (now (bytes .entry)) key (now (row .entry)) (refusal r) (count r) (now (row .exit)) ⌝ }
+    ensures { λ r. ⌜ WaitingList (now (bytes .entry)) key (now (row .entry)) (refusal r) (value r) (now (row .exit)) ⌝ }
 {
     if key == 0 {
-        return Row::Refused(KEY_ZERO);
+        return Number::Refused(KEY_ZERO);
     }
     let mut marks = [0u8; BYTES];
     let passed = mark_below(bytes, key, &mut marks);
     if passed.met {
         return rows::fill(&marks, passed.below, row);
     }
-    Row::Refused(KEY_ABSENT)
+    Number::Refused(KEY_ABSENT)
 }
 
 // The keys other than `key` that stand below a prefix that holds it, ascending, to the front of the row.
-pub fn waiting(bytes: &[u8], key: u16, row: &mut [u16]) -> Row
-    ensures { λ r. ⌜ WaitingList (now (bytes .entry)) key (now (row .entry)) (refusal r) (count r) (now (row .exit)) ⌝ }
+pub fn waiting(bytes: &[u8], key: Key, row: &mut [u16]) -> Number
+    ensures { λ r. ⌜ WaitingList (now (bytes .entry)) (key .0) (now (row .entry)) (refusal r) (value r) (now (row .exit)) ⌝ }
 {
     match reader::read(bytes) {
-        Count::Refused(c) => Row::Refused(c),
-        Count::Nodes(_) => list_waiting(bytes, key, row),
+        Number::Refused(c) => Number::Refused(c),
+        Number::Is(_) => list_waiting(bytes, key.0, row),
     }
 }

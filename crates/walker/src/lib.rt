@@ -5,7 +5,7 @@ ghost use Rattle.cursor.specs.At.{Opens, Shows, Goes};
 ghost use Rattle.walker.specs.Shown.{GoesOn, NodeShown};
 use cursor::Cursor;
 use cursor::Shown;
-use reader::Node;
+use shared::Node;
 
 // A record and a cursor in it.
 pub struct Walker<'a> {

@@ -7,15 +7,15 @@ use Rattle.concoursel.proofs.concoursel_waiting.Tie as tie
 waiting-requires : tie.Need-waiting-requires
 waiting-requires c κs = search needs
 
-packed-row-requires : tie.Need-packed-row-requires
-packed-row-requires c κs = search needs
+packed-number-requires : tie.Need-packed-number-requires
+packed-number-requires c κs = search needs
 
 same-length : tie.Need-same-length
 same-length c = search needs
 
 returns : tie.Need-returns
-returns c = pack-lent _ _ _ _ (c .packed-row .ensures) (c .before .before .before .waiting .ensures)
+returns c = pack-lent _ _ _ _ (c .packed-number .ensures) (c .before .before .before .waiting .ensures)
 
 pub concoursel-waiting-spec : {M : Type 1} → statement M
 concoursel-waiting-spec =
-    tie.close (tie.spec waiting-requires packed-row-requires same-length returns)
+    tie.close (tie.spec waiting-requires packed-number-requires same-length returns)

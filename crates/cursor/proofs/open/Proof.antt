@@ -2,8 +2,8 @@
 use mathlib.Core.Path.{refl, subst}
 use native.Mathlib.Omega.{arith}
 use Rattle.operations.specs.Ask.{ReadRecord}
-use Rattle.reader.specs.declared.Count.{Count}
-use Rattle.reader.specs.Count.{refusal, nodes}
+use Rattle.shared.specs.declared.Number.{Number}
+use Rattle.shared.specs.Number.{refusal, value}
 use Rattle.reader.proofs.Whole.{record-refused, record-reads, slice-bytes}
 use Rattle.cursor.proofs.Promise.{opens-refused, opens-standing}
 use borrow.Author.Needs.{needs}
@@ -26,10 +26,10 @@ standing-requires : tie.Need-standing-requires
 standing-requires c κs = search needs
 
 returns : tie.Need-returns
-returns c = let s = c .before .before .before .before .before .args .bytes .now in opens-refused s _ _ (record-refused s _ (subst (λ (r : Count). ReadRecord s (refusal r) (nodes r)) (c .before .c .given .1) (c .before .before .before .read .ensures))) refl refl
+returns c = let s = c .before .before .before .before .before .args .bytes .now in opens-refused s _ _ (record-refused s _ (subst (λ (r : Number). ReadRecord s (refusal r) (value r)) (c .before .c .given .1) (c .before .before .before .read .ensures))) refl refl
 
 returns-2 : tie.Need-returns-2
-returns-2 c = let s = c .before .before .before .before .before .args .bytes .now in let r = record-reads s _ (subst (λ (r : Count). ReadRecord s (refusal r) (nodes r)) (c .before .enum-told .given .1) (c .before .before .before .read .ensures)) in opens-standing s (r .0) _ (c .standing .result) (slice-bytes s (λ i. omega (arith, c .before .before .before .before .shared-slice-known .given i))) (r .1) refl refl (c .standing .ensures)
+returns-2 c = let s = c .before .before .before .before .before .args .bytes .now in let r = record-reads s _ (subst (λ (r : Number). ReadRecord s (refusal r) (value r)) (c .before .enum-told .given .1) (c .before .before .before .read .ensures)) in opens-standing s (r .0) _ (c .standing .result) (slice-bytes s (λ i. omega (arith, c .before .before .before .before .shared-slice-known .given i))) (r .1) refl refl (c .standing .ensures)
 
 pub open-spec : {M : Type 1} → statement M
 open-spec =

@@ -17,11 +17,11 @@ abbrev μ-loop : tie.MeasureT-loop
 loop-holds : tie.Need-loop-holds Inv-loop μ-loop
 loop-holds c = start (c .before .args .bytes .now) (c .before .args .marks .now) (c .before .pre .0) (c .before .pre .1)
 
-shared-slice-read-wide : tie.Need-shared-slice-read-wide Inv-loop μ-loop
-shared-slice-read-wide c = search needs
+shared-slice-read-wide-byte : tie.Need-shared-slice-read-wide-byte Inv-loop μ-loop
+shared-slice-read-wide-byte c = search needs
 
-wide-requires : tie.Need-wide-requires Inv-loop μ-loop
-wide-requires c κs = search needs
+wide-byte-requires : tie.Need-wide-byte-requires Inv-loop μ-loop
+wide-byte-requires c κs = search needs
 
 key-at-requires : tie.Need-key-at-requires Inv-loop μ-loop
 key-at-requires c κs = (c .before .before .before .loop-test .taken, key-within (c .before .before .before .before .before .before .args .bytes .now) (c .before .before .before .before .loop .at) _ (c .before .before .before .before .loop .inv .due) (c .before .before .before .loop-test .taken))
@@ -33,22 +33,22 @@ add-n : tie.Need-add-n Inv-loop μ-loop
 add-n c = omega (arith, c .before .before .before .before .before .before .loop .inv .few, c .mark .ensures .one)
 
 mul-at : tie.Need-mul-at Inv-loop μ-loop
-mul-at c = omega (arith, kind-known (c .before .before .before .before .before .before .before .before .args .bytes .now) (c .before .before .before .before .before .before .loop .at) _ (c .before .before .before .before .before .before .loop .inv .due) (c .before .before .before .before .before .loop-test .taken) (c .before .before .before .wide .result) (c .before .before .before .wide .ensures))
+mul-at c = omega (arith, kind-known (c .before .before .before .before .before .before .before .before .args .bytes .now) (c .before .before .before .before .before .before .loop .at) _ (c .before .before .before .before .before .before .loop .inv .due) (c .before .before .before .before .before .loop-test .taken) (c .before .before .before .wide-byte .result) (c .before .before .before .wide-byte .ensures))
 
 array-read-at : tie.Need-array-read-at Inv-loop μ-loop
-array-read-at c = kind-known (c .before .before .before .before .before .before .before .before .args .bytes .now) (c .before .before .before .before .before .before .loop .at) _ (c .before .before .before .before .before .before .loop .inv .due) (c .before .before .before .before .before .loop-test .taken) (c .before .before .before .wide .result) (c .before .before .before .wide .ensures)
+array-read-at c = kind-known (c .before .before .before .before .before .before .before .before .args .bytes .now) (c .before .before .before .before .before .before .loop .at) _ (c .before .before .before .before .before .before .loop .inv .due) (c .before .before .before .before .before .loop-test .taken) (c .before .before .before .wide-byte .result) (c .before .before .before .wide-byte .ensures)
 
 add-at : tie.Need-add-at Inv-loop μ-loop
-add-at c = omega (arith, ends-within (c .before .before .before .before .before .before .before .before .args .bytes .now) (c .before .before .before .before .before .before .loop .at) _ (c .before .before .before .before .before .before .loop .inv .due) (c .before .before .before .before .before .loop-test .taken) (c .before .before .before .wide .result) (c .before .before .before .wide .ensures))
+add-at c = omega (arith, ends-within (c .before .before .before .before .before .before .before .before .args .bytes .now) (c .before .before .before .before .before .before .loop .at) _ (c .before .before .before .before .before .before .loop .inv .due) (c .before .before .before .before .before .loop-test .taken) (c .before .before .before .wide-byte .result) (c .before .before .before .wide-byte .ensures))
 
 add-at-2 : tie.Need-add-at-2 Inv-loop μ-loop
-add-at-2 c = omega (arith, ends-within (c .before .before .before .before .before .before .before .before .args .bytes .now) (c .before .before .before .before .before .before .loop .at) _ (c .before .before .before .before .before .before .loop .inv .due) (c .before .before .before .before .before .loop-test .taken) (c .before .before .before .wide .result) (c .before .before .before .wide .ensures))
+add-at-2 c = omega (arith, ends-within (c .before .before .before .before .before .before .before .before .args .bytes .now) (c .before .before .before .before .before .before .loop .at) _ (c .before .before .before .before .before .before .loop .inv .due) (c .before .before .before .before .before .loop-test .taken) (c .before .before .before .wide-byte .result) (c .before .before .before .wide-byte .ensures))
 
 loop-less : tie.Need-loop-less Inv-loop μ-loop
-loop-less c = omega (arith, ends-within (c .before .before .before .before .before .before .before .before .args .bytes .now) (c .before .before .before .before .before .before .loop .at) _ (c .before .before .before .before .before .before .loop .inv .due) (c .before .before .before .before .before .loop-test .taken) (c .before .before .before .wide .result) (c .before .before .before .wide .ensures))
+loop-less c = omega (arith, ends-within (c .before .before .before .before .before .before .before .before .args .bytes .now) (c .before .before .before .before .before .before .loop .at) _ (c .before .before .before .before .before .before .loop .inv .due) (c .before .before .before .before .before .loop-test .taken) (c .before .before .before .wide-byte .result) (c .before .before .before .wide-byte .ensures))
 
 loop-again : tie.Need-loop-again Inv-loop μ-loop
-loop-again c = (onward (c .before .before .before .before .before .before .before .before .args .bytes .now) (c .before .before .before .before .before .before .loop .marks) (c .before .before .before .before .before .before .loop .at) (c .before .before .before .before .before .before .loop .n) (c .before .before .before .before .before .before .loop .inv) (c .before .before .before .before .before .loop-test .taken) (c .before .key-at .result) (c .before .key-at .ensures) _ (c .mark .result) (c .mark .ensures) (c .before .before .before .wide .result) (c .before .before .before .wide .ensures))
+loop-again c = (onward (c .before .before .before .before .before .before .before .before .args .bytes .now) (c .before .before .before .before .before .before .loop .marks) (c .before .before .before .before .before .before .loop .at) (c .before .before .before .before .before .before .loop .n) (c .before .before .before .before .before .before .loop .inv) (c .before .before .before .before .before .loop-test .taken) (c .before .key-at .result) (c .before .key-at .ensures) _ (c .mark .result) (c .mark .ensures) (c .before .before .before .wide-byte .result) (c .before .before .before .wide-byte .ensures))
 
 returns : tie.Need-returns Inv-loop μ-loop
 returns c = scanned (c .before .before .before .args .bytes .now) (c .before .loop .marks) (c .before .loop .at) (c .before .loop .n) (c .before .loop .inv) (c .loop-test .left)
@@ -60,8 +60,8 @@ scan-spec =
     Inv-loop
     μ-loop
     loop-holds
-    shared-slice-read-wide
-    wide-requires
+    shared-slice-read-wide-byte
+    wide-byte-requires
     key-at-requires
     mark-requires
     add-n

@@ -20,11 +20,11 @@ abbrev μ-loop : tie.MeasureT-loop
 loop-holds : tie.Need-loop-holds Inv-loop μ-loop
 loop-holds c = (start (c .before .args .bytes .now) (c .before .args .marks .now) (c .before .pre .0) (c .before .pre .1), clearing.start (c .before .args .bytes .now) (c .before .pre .0))
 
-slice-read-wide : tie.Need-slice-read-wide Inv-loop μ-loop
-slice-read-wide c = search needs
+slice-read-wide-byte : tie.Need-slice-read-wide-byte Inv-loop μ-loop
+slice-read-wide-byte c = search needs
 
-wide-requires : tie.Need-wide-requires Inv-loop μ-loop
-wide-requires c κs = search needs
+wide-byte-requires : tie.Need-wide-byte-requires Inv-loop μ-loop
+wide-byte-requires c κs = search needs
 
 key-at-requires : tie.Need-key-at-requires Inv-loop μ-loop
 key-at-requires c κs = (c .before .before .before .before .loop-test .taken, key-within (c .before .before .before .before .before .loop .bytes) (c .before .before .before .before .before .loop .at) _ (c .before .before .before .before .before .loop .inv .1 .due) (c .before .before .before .before .loop-test .taken))
@@ -39,22 +39,22 @@ clear-at-requires : tie.Need-clear-at-requires Inv-loop μ-loop
 clear-at-requires c κs = (c .before .before .before .before .before .before .before .loop-test .taken, key-within (c .before .before .before .before .before .before .before .before .loop .bytes) (c .before .before .before .before .before .before .before .before .loop .at) _ (c .before .before .before .before .before .before .before .before .loop .inv .1 .due) (c .before .before .before .before .before .before .before .loop-test .taken))
 
 mul-at : tie.Need-mul-at Inv-loop μ-loop
-mul-at c = omega (arith, kind-known (c .before .before .before .before .before .before .before .before .before .before .before .loop .bytes) (c .before .before .before .before .before .before .before .before .before .before .before .loop .at) _ (c .before .before .before .before .before .before .before .before .before .before .before .loop .inv .1 .due) (c .before .before .before .before .before .before .before .before .before .before .loop-test .taken) (c .before .before .before .before .before .before .before .before .wide .result) (c .before .before .before .before .before .before .before .before .wide .ensures))
+mul-at c = omega (arith, kind-known (c .before .before .before .before .before .before .before .before .before .before .before .loop .bytes) (c .before .before .before .before .before .before .before .before .before .before .before .loop .at) _ (c .before .before .before .before .before .before .before .before .before .before .before .loop .inv .1 .due) (c .before .before .before .before .before .before .before .before .before .before .loop-test .taken) (c .before .before .before .before .before .before .before .before .wide-byte .result) (c .before .before .before .before .before .before .before .before .wide-byte .ensures))
 
 array-read-at : tie.Need-array-read-at Inv-loop μ-loop
-array-read-at c = kind-known (c .before .before .before .before .before .before .before .before .before .before .before .loop .bytes) (c .before .before .before .before .before .before .before .before .before .before .before .loop .at) _ (c .before .before .before .before .before .before .before .before .before .before .before .loop .inv .1 .due) (c .before .before .before .before .before .before .before .before .before .before .loop-test .taken) (c .before .before .before .before .before .before .before .before .wide .result) (c .before .before .before .before .before .before .before .before .wide .ensures)
+array-read-at c = kind-known (c .before .before .before .before .before .before .before .before .before .before .before .loop .bytes) (c .before .before .before .before .before .before .before .before .before .before .before .loop .at) _ (c .before .before .before .before .before .before .before .before .before .before .before .loop .inv .1 .due) (c .before .before .before .before .before .before .before .before .before .before .loop-test .taken) (c .before .before .before .before .before .before .before .before .wide-byte .result) (c .before .before .before .before .before .before .before .before .wide-byte .ensures)
 
 add-at : tie.Need-add-at Inv-loop μ-loop
-add-at c = omega (arith, ends-within (c .before .before .before .before .before .before .before .before .before .before .before .loop .bytes) (c .before .before .before .before .before .before .before .before .before .before .before .loop .at) _ (c .before .before .before .before .before .before .before .before .before .before .before .loop .inv .1 .due) (c .before .before .before .before .before .before .before .before .before .before .loop-test .taken) (c .before .before .before .before .before .before .before .before .wide .result) (c .before .before .before .before .before .before .before .before .wide .ensures))
+add-at c = omega (arith, ends-within (c .before .before .before .before .before .before .before .before .before .before .before .loop .bytes) (c .before .before .before .before .before .before .before .before .before .before .before .loop .at) _ (c .before .before .before .before .before .before .before .before .before .before .before .loop .inv .1 .due) (c .before .before .before .before .before .before .before .before .before .before .loop-test .taken) (c .before .before .before .before .before .before .before .before .wide-byte .result) (c .before .before .before .before .before .before .before .before .wide-byte .ensures))
 
 add-at-2 : tie.Need-add-at-2 Inv-loop μ-loop
-add-at-2 c = omega (arith, ends-within (c .before .before .before .before .before .before .before .before .before .before .before .loop .bytes) (c .before .before .before .before .before .before .before .before .before .before .before .loop .at) _ (c .before .before .before .before .before .before .before .before .before .before .before .loop .inv .1 .due) (c .before .before .before .before .before .before .before .before .before .before .loop-test .taken) (c .before .before .before .before .before .before .before .before .wide .result) (c .before .before .before .before .before .before .before .before .wide .ensures))
+add-at-2 c = omega (arith, ends-within (c .before .before .before .before .before .before .before .before .before .before .before .loop .bytes) (c .before .before .before .before .before .before .before .before .before .before .before .loop .at) _ (c .before .before .before .before .before .before .before .before .before .before .before .loop .inv .1 .due) (c .before .before .before .before .before .before .before .before .before .before .loop-test .taken) (c .before .before .before .before .before .before .before .before .wide-byte .result) (c .before .before .before .before .before .before .before .before .wide-byte .ensures))
 
 loop-less : tie.Need-loop-less Inv-loop μ-loop
-loop-less c = omega (arith, ends-within (c .before .before .before .before .before .before .before .before .before .before .before .loop .bytes) (c .before .before .before .before .before .before .before .before .before .before .before .loop .at) _ (c .before .before .before .before .before .before .before .before .before .before .before .loop .inv .1 .due) (c .before .before .before .before .before .before .before .before .before .before .loop-test .taken) (c .before .before .before .before .before .before .before .before .wide .result) (c .before .before .before .before .before .before .before .before .wide .ensures), c .before .before .clear-at .kept .0)
+loop-less c = omega (arith, ends-within (c .before .before .before .before .before .before .before .before .before .before .before .loop .bytes) (c .before .before .before .before .before .before .before .before .before .before .before .loop .at) _ (c .before .before .before .before .before .before .before .before .before .before .before .loop .inv .1 .due) (c .before .before .before .before .before .before .before .before .before .before .loop-test .taken) (c .before .before .before .before .before .before .before .before .wide-byte .result) (c .before .before .before .before .before .before .before .before .wide-byte .ensures), c .before .before .clear-at .kept .0)
 
 loop-again : tie.Need-loop-again Inv-loop μ-loop
-loop-again c = (onward (c .before .before .before .before .before .before .before .before .before .before .before .before .before .args .bytes .now) (c .before .before .before .before .before .before .before .before .before .before .before .loop .marks) (c .before .before .before .before .before .before .before .before .before .before .before .loop .at) (c .before .before .before .before .before .before .before .before .before .before .before .loop .n) (c .before .before .before .before .before .before .before .before .before .before .before .loop .inv .0) (omega (arith, c .before .before .before .before .before .before .before .before .before .before .loop-test .taken, c .before .before .before .before .before .before .before .before .before .before .before .loop .inv .1 .same)) (c .before .before .before .before .before .key-at .result) (c .before .before .before .before .before .key-at .ensures ∙ clearing.same-key (c .before .before .before .before .before .before .before .before .before .before .before .before .before .args .bytes .now) (c .before .before .before .before .before .before .before .before .before .before .before .loop .bytes) (c .before .before .before .before .before .before .before .before .before .before .before .loop .at) (c .before .before .before .before .before .before .before .before .before .before .before .loop .inv .1)) _ (c .before .before .before .before .mark .result) (c .before .before .before .before .mark .ensures) (c .before .before .before .before .before .before .before .before .wide .result) (c .before .before .before .before .before .before .before .before .wide .ensures ∙ clearing.same-kind (c .before .before .before .before .before .before .before .before .before .before .before .before .before .args .bytes .now) (c .before .before .before .before .before .before .before .before .before .before .before .loop .bytes) (c .before .before .before .before .before .before .before .before .before .before .before .loop .at) (c .before .before .before .before .before .before .before .before .before .before .before .loop .inv .1)), clearing.onward (c .before .before .before .before .before .before .before .before .before .before .before .before .before .args .bytes .now) (c .before .before .before .before .before .before .before .before .before .before .before .loop .bytes) (c .before .before .before .before .before .before .before .before .before .before .before .loop .at) (c .before .before .before .before .before .before .before .before .before .before .before .loop .inv .1) (c .before .before .before .before .before .before .before .before .before .before .loop-test .taken) (c .before .before .before .before .before .before .before .before .wide .result) (c .before .before .before .before .before .before .before .before .wide .ensures) _ (c .before .before .clear-at .ensures))
+loop-again c = (onward (c .before .before .before .before .before .before .before .before .before .before .before .before .before .args .bytes .now) (c .before .before .before .before .before .before .before .before .before .before .before .loop .marks) (c .before .before .before .before .before .before .before .before .before .before .before .loop .at) (c .before .before .before .before .before .before .before .before .before .before .before .loop .n) (c .before .before .before .before .before .before .before .before .before .before .before .loop .inv .0) (omega (arith, c .before .before .before .before .before .before .before .before .before .before .loop-test .taken, c .before .before .before .before .before .before .before .before .before .before .before .loop .inv .1 .same)) (c .before .before .before .before .before .key-at .result) (c .before .before .before .before .before .key-at .ensures ∙ clearing.same-key (c .before .before .before .before .before .before .before .before .before .before .before .before .before .args .bytes .now) (c .before .before .before .before .before .before .before .before .before .before .before .loop .bytes) (c .before .before .before .before .before .before .before .before .before .before .before .loop .at) (c .before .before .before .before .before .before .before .before .before .before .before .loop .inv .1)) _ (c .before .before .before .before .mark .result) (c .before .before .before .before .mark .ensures) (c .before .before .before .before .before .before .before .before .wide-byte .result) (c .before .before .before .before .before .before .before .before .wide-byte .ensures ∙ clearing.same-kind (c .before .before .before .before .before .before .before .before .before .before .before .before .before .args .bytes .now) (c .before .before .before .before .before .before .before .before .before .before .before .loop .bytes) (c .before .before .before .before .before .before .before .before .before .before .before .loop .at) (c .before .before .before .before .before .before .before .before .before .before .before .loop .inv .1)), clearing.onward (c .before .before .before .before .before .before .before .before .before .before .before .before .before .args .bytes .now) (c .before .before .before .before .before .before .before .before .before .before .before .loop .bytes) (c .before .before .before .before .before .before .before .before .before .before .before .loop .at) (c .before .before .before .before .before .before .before .before .before .before .before .loop .inv .1) (c .before .before .before .before .before .before .before .before .before .before .loop-test .taken) (c .before .before .before .before .before .before .before .before .wide-byte .result) (c .before .before .before .before .before .before .before .before .wide-byte .ensures) _ (c .before .before .clear-at .ensures))
 
 same-length : tie.Need-same-length Inv-loop μ-loop
 same-length c = c .before .loop .inv .1 .same
@@ -69,8 +69,8 @@ wipe-spec =
     Inv-loop
     μ-loop
     loop-holds
-    slice-read-wide
-    wide-requires
+    slice-read-wide-byte
+    wide-byte-requires
     key-at-requires
     mark-requires
     add-n

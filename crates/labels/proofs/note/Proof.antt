@@ -5,8 +5,6 @@ use Rattle.labels.proofs.Search.{noted-one, noted-none, noted-past}
 use borrow.Author.Needs.{needs}
 use Rattle.labels.proofs.note.Statement.{statement}
 use Rattle.labels.proofs.note.Tie as tie
-use Rattle.labels.proofs.find.Reads as find-reads
-use Rattle.labels.proofs.join.Reads as join-reads
 
 find-requires : tie.Need-find-requires
 find-requires c κs = search needs

@@ -5,8 +5,6 @@ use Rattle.labels.proofs.Gathering.{is-prefix, passes-none, passes-note
 use borrow.Author.Needs.{needs}
 use Rattle.labels.proofs.pass.Statement.{statement}
 use Rattle.labels.proofs.pass.Tie as tie
-use Rattle.keys.proofs.key_at.Reads as key-at-reads
-use Rattle.labels.proofs.note.Reads as note-reads
 
 key-at-requires : tie.Need-key-at-requires
 key-at-requires c κs = c .before .before .pre .0

@@ -7,8 +7,6 @@ use Rattle.format.proofs.Flat.{key-within, kind-known, ends-within}
 use Rattle.labels.proofs.Gathering.{Passed, start, onward, labelled}
 use Rattle.labels.proofs.undo_labels.Statement.{statement}
 use Rattle.labels.proofs.undo_labels.Tie as tie
-use Rattle.labels.proofs.pass.Reads as pass-reads
-use Rattle.reader.proofs.wide.Reads as wide-reads
 
 abbrev Inv-loop : tie.InvT-loop
 Inv-loop bytes row count labels₀ body at₀ labels at = Passed bytes row count labels at
@@ -19,32 +17,32 @@ abbrev μ-loop : tie.MeasureT-loop
 loop-holds : tie.Need-loop-holds Inv-loop μ-loop
 loop-holds c = start (c .before .before .args .bytes .now) (c .before .before .args .row .now) (c .before .before .args .count) (c .before .before .args .labels .now) (c .before .before .pre .0) (c .before .before .pre .1 .1 .1) (c .before .before .pre .1 .1 .2)
 
-shared-slice-read-wide : tie.Need-shared-slice-read-wide Inv-loop μ-loop
-shared-slice-read-wide c = search needs
+shared-slice-read-wide-byte : tie.Need-shared-slice-read-wide-byte Inv-loop μ-loop
+shared-slice-read-wide-byte c = search needs
 
-wide-requires : tie.Need-wide-requires Inv-loop μ-loop
-wide-requires c κs = search needs
+wide-byte-requires : tie.Need-wide-byte-requires Inv-loop μ-loop
+wide-byte-requires c κs = search needs
 
 pass-requires : tie.Need-pass-requires Inv-loop μ-loop
 pass-requires c κs = ((c .before .before .before .loop-test .taken, key-within (c .before .before .before .before .before .before .before .args .bytes .now) (c .before .before .before .before .loop .at) (c .before .before .before .before .loop .inv .terms) (c .before .before .before .before .loop .inv .due) (c .before .before .before .loop-test .taken)), (c .before .before .before .before .before .before .before .pre .1 .0, (c .before .before .before .before .before .before .before .pre .1 .1 .0, c .before .before .before .before .loop .inv .room)))
 
 mul-at : tie.Need-mul-at Inv-loop μ-loop
-mul-at c = omega (arith, kind-known (c .before .before .before .before .before .before .before .before .args .bytes .now) (c .before .before .before .before .before .loop .at) (c .before .before .before .before .before .loop .inv .terms) (c .before .before .before .before .before .loop .inv .due) (c .before .before .before .before .loop-test .taken) (c .before .before .wide .result) (c .before .before .wide .ensures))
+mul-at c = omega (arith, kind-known (c .before .before .before .before .before .before .before .before .args .bytes .now) (c .before .before .before .before .before .loop .at) (c .before .before .before .before .before .loop .inv .terms) (c .before .before .before .before .before .loop .inv .due) (c .before .before .before .before .loop-test .taken) (c .before .before .wide-byte .result) (c .before .before .wide-byte .ensures))
 
 array-read-at : tie.Need-array-read-at Inv-loop μ-loop
-array-read-at c = kind-known (c .before .before .before .before .before .before .before .before .args .bytes .now) (c .before .before .before .before .before .loop .at) (c .before .before .before .before .before .loop .inv .terms) (c .before .before .before .before .before .loop .inv .due) (c .before .before .before .before .loop-test .taken) (c .before .before .wide .result) (c .before .before .wide .ensures)
+array-read-at c = kind-known (c .before .before .before .before .before .before .before .before .args .bytes .now) (c .before .before .before .before .before .loop .at) (c .before .before .before .before .before .loop .inv .terms) (c .before .before .before .before .before .loop .inv .due) (c .before .before .before .before .loop-test .taken) (c .before .before .wide-byte .result) (c .before .before .wide-byte .ensures)
 
 add-at : tie.Need-add-at Inv-loop μ-loop
-add-at c = omega (arith, ends-within (c .before .before .before .before .before .before .before .before .args .bytes .now) (c .before .before .before .before .before .loop .at) (c .before .before .before .before .before .loop .inv .terms) (c .before .before .before .before .before .loop .inv .due) (c .before .before .before .before .loop-test .taken) (c .before .before .wide .result) (c .before .before .wide .ensures))
+add-at c = omega (arith, ends-within (c .before .before .before .before .before .before .before .before .args .bytes .now) (c .before .before .before .before .before .loop .at) (c .before .before .before .before .before .loop .inv .terms) (c .before .before .before .before .before .loop .inv .due) (c .before .before .before .before .loop-test .taken) (c .before .before .wide-byte .result) (c .before .before .wide-byte .ensures))
 
 add-at-2 : tie.Need-add-at-2 Inv-loop μ-loop
-add-at-2 c = omega (arith, ends-within (c .before .before .before .before .before .before .before .before .args .bytes .now) (c .before .before .before .before .before .loop .at) (c .before .before .before .before .before .loop .inv .terms) (c .before .before .before .before .before .loop .inv .due) (c .before .before .before .before .loop-test .taken) (c .before .before .wide .result) (c .before .before .wide .ensures))
+add-at-2 c = omega (arith, ends-within (c .before .before .before .before .before .before .before .before .args .bytes .now) (c .before .before .before .before .before .loop .at) (c .before .before .before .before .before .loop .inv .terms) (c .before .before .before .before .before .loop .inv .due) (c .before .before .before .before .loop-test .taken) (c .before .before .wide-byte .result) (c .before .before .wide-byte .ensures))
 
 loop-less : tie.Need-loop-less Inv-loop μ-loop
-loop-less c = omega (arith, ends-within (c .before .before .before .before .before .before .before .before .args .bytes .now) (c .before .before .before .before .before .loop .at) (c .before .before .before .before .before .loop .inv .terms) (c .before .before .before .before .before .loop .inv .due) (c .before .before .before .before .loop-test .taken) (c .before .before .wide .result) (c .before .before .wide .ensures))
+loop-less c = omega (arith, ends-within (c .before .before .before .before .before .before .before .before .args .bytes .now) (c .before .before .before .before .before .loop .at) (c .before .before .before .before .before .loop .inv .terms) (c .before .before .before .before .before .loop .inv .due) (c .before .before .before .before .loop-test .taken) (c .before .before .wide-byte .result) (c .before .before .wide-byte .ensures))
 
 loop-again : tie.Need-loop-again Inv-loop μ-loop
-loop-again c = onward (c .before .before .before .before .before .before .before .before .args .bytes .now) (c .before .before .before .before .before .before .before .before .args .row .now) (c .before .before .before .before .before .before .before .before .args .count) (c .before .before .before .before .before .loop .labels) (c .before .before .before .before .before .loop .at) (c .before .before .before .before .before .loop .inv) (c .before .before .before .before .loop-test .taken) _ (c .pass .ensures) (c .before .before .wide .result) (c .before .before .wide .ensures)
+loop-again c = onward (c .before .before .before .before .before .before .before .before .args .bytes .now) (c .before .before .before .before .before .before .before .before .args .row .now) (c .before .before .before .before .before .before .before .before .args .count) (c .before .before .before .before .before .loop .labels) (c .before .before .before .before .before .loop .at) (c .before .before .before .before .before .loop .inv) (c .before .before .before .before .loop-test .taken) _ (c .pass .ensures) (c .before .before .wide-byte .result) (c .before .before .wide-byte .ensures)
 
 returns : tie.Need-returns Inv-loop μ-loop
 returns c = labelled (c .before .before .before .before .args .bytes .now) (c .before .before .before .before .args .row .now) (c .before .before .before .before .args .count) (c .before .loop .labels) (c .before .loop .at) (c .before .loop .inv) (c .loop-test .left)
@@ -56,8 +54,8 @@ undo-labels-spec =
     Inv-loop
     μ-loop
     loop-holds
-    shared-slice-read-wide
-    wide-requires
+    shared-slice-read-wide-byte
+    wide-byte-requires
     pass-requires
     mul-at
     array-read-at

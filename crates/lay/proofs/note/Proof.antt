@@ -13,8 +13,8 @@ element-write-keys c = search needs
 element-write-actions : tie.Need-element-write-actions
 element-write-actions c = search needs
 
-channel-requires : tie.Need-channel-requires
-channel-requires c κs = search needs
+slot-of-requires : tie.Need-slot-of-requires
+slot-of-requires c κs = search needs
 
 mul-scopes : tie.Need-mul-scopes
 mul-scopes c = search needs
@@ -35,7 +35,7 @@ element-write-ups : tie.Need-element-write-ups
 element-write-ups c = search needs
 
 returns : tie.Need-returns
-returns c = let e = c .before .channel .ensures in rw e (refl, refl, refl, refl)
+returns c = let e = c .before .slot-of .ensures in rw e (refl, refl, refl, refl)
 
 pub note-spec : {M : Type 1} → statement M
 note-spec =
@@ -44,7 +44,7 @@ note-spec =
     mul-keys
     element-write-keys
     element-write-actions
-    channel-requires
+    slot-of-requires
     mul-scopes
     element-copy-out-scopes
     mul-scopes-2

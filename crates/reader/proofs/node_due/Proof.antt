@@ -1,6 +1,5 @@
 -- `node_due` meets its contract: each return is one law of Laws.
 use Rattle.reader.proofs.Laws.{stops-end, stops-deep, stops-left, due-head}
-use borrow.Author.Needs.{needs}
 use Rattle.reader.proofs.node_due.Statement.{statement}
 use Rattle.reader.proofs.node_due.Tie as tie
 

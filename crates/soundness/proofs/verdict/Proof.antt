@@ -25,14 +25,14 @@ returns-2 c = second-verdict (c .before .before .before .before .before .before 
 judge-requires : tie.Need-judge-requires
 judge-requires c κs = fair (c .before .before .before .before .before .before .before .before .before .args .record .now) (slice-bytes (c .before .before .before .before .before .before .before .before .before .args .record .now) (λ i. omega (arith, c .before .before .before .before .before .before .before .before .shared-slice-known .given i))) (c .before .before .before .before .before .before .before .fold-all .result) (c .before .before .before .before .before .before .before .fold-all .ensures) _ (c .before .before .before .before .before .marks .given .1) (not-false _ (c .before .before .if1 .left)) (not-false _ (c .if2 .left))
 
-wide-requires : tie.Need-wide-requires
-wide-requires c κs = search needs
+wide-byte-requires : tie.Need-wide-byte-requires
+wide-byte-requires c κs = search needs
 
 returns-3 : tie.Need-returns-3
 returns-3 c = refused-verdict (c .before .before .before .before .before .args .record .now) (slice-bytes (c .before .before .before .before .before .args .record .now) (λ i. omega (arith, c .before .before .before .before .shared-slice-known .given i))) (c .before .before .before .fold-all .result) (c .before .before .before .fold-all .ensures) _ (c .before .c .given .1)
 
 returns-4 : tie.Need-returns-4
-returns-4 c = last-verdict (c .before .before .before .before .before .before .before .before .before .before .before .args .record .now) (slice-bytes (c .before .before .before .before .before .before .before .before .before .before .before .args .record .now) (λ i. omega (arith, c .before .before .before .before .before .before .before .before .before .before .shared-slice-known .given i))) (c .before .before .before .before .before .before .before .before .before .fold-all .result) (c .before .before .before .before .before .before .before .before .before .fold-all .ensures) _ (c .before .before .before .before .before .before .before .marks .given .1) (not-false _ (c .before .before .before .before .if1 .left)) (not-false _ (c .before .before .if2 .left)) (c .before .judge .result) (c .wide .result) (c .wide .ensures) (c .before .judge .ensures)
+returns-4 c = last-verdict (c .before .before .before .before .before .before .before .before .before .before .before .args .record .now) (slice-bytes (c .before .before .before .before .before .before .before .before .before .before .before .args .record .now) (λ i. omega (arith, c .before .before .before .before .before .before .before .before .before .before .shared-slice-known .given i))) (c .before .before .before .before .before .before .before .before .before .fold-all .result) (c .before .before .before .before .before .before .before .before .before .fold-all .ensures) _ (c .before .before .before .before .before .before .before .marks .given .1) (not-false _ (c .before .before .before .before .if1 .left)) (not-false _ (c .before .before .if2 .left)) (c .before .judge .result) (c .wide-byte .result) (c .wide-byte .ensures) (c .before .judge .ensures)
 
 pub verdict-spec : {M : Type 1} → statement M
 verdict-spec =
@@ -44,6 +44,6 @@ verdict-spec =
     returns
     returns-2
     judge-requires
-    wide-requires
+    wide-byte-requires
     returns-3
     returns-4)

@@ -19,11 +19,11 @@ abbrev μ-loop : tie.MeasureT-loop
 loop-holds : tie.Need-loop-holds Inv-loop μ-loop
 loop-holds c = (start (c .before .args .bytes .now) (c .before .args .marks .now) (c .before .args .key) (c .before .pre .0) (c .before .pre .1 .1), standing.start (c .before .args .bytes .now) (c .before .args .key) (c .before .pre .0))
 
-shared-slice-read-wide : tie.Need-shared-slice-read-wide Inv-loop μ-loop
-shared-slice-read-wide c = search needs
+shared-slice-read-wide-byte : tie.Need-shared-slice-read-wide-byte Inv-loop μ-loop
+shared-slice-read-wide-byte c = search needs
 
-wide-requires : tie.Need-wide-requires Inv-loop μ-loop
-wide-requires c κs = search needs
+wide-byte-requires : tie.Need-wide-byte-requires Inv-loop μ-loop
+wide-byte-requires c κs = search needs
 
 key-at-requires : tie.Need-key-at-requires Inv-loop μ-loop
 key-at-requires c κs = (c .before .before .loop-test .taken, key-within (c .before .before .before .before .before .args .bytes .now) (c .before .before .before .loop .at) _ (c .before .before .before .loop .inv .0 .terms) (c .before .before .loop-test .taken))
@@ -41,31 +41,31 @@ met-by-requires : tie.Need-met-by-requires Inv-loop μ-loop
 met-by-requires c κs = search needs
 
 mul-due-after : tie.Need-mul-due-after Inv-loop μ-loop
-mul-due-after c = omega (arith, kind-known (c .before .before .before .before .before .before .before .before .before .before .args .bytes .now) (c .before .before .before .before .before .before .before .before .loop .at) _ (c .before .before .before .before .before .before .before .before .loop .inv .0 .terms) (c .before .before .before .before .before .before .before .loop-test .taken) (c .before .before .before .before .before .wide .result) (c .before .before .before .before .before .wide .ensures))
+mul-due-after c = omega (arith, kind-known (c .before .before .before .before .before .before .before .before .before .before .args .bytes .now) (c .before .before .before .before .before .before .before .before .loop .at) _ (c .before .before .before .before .before .before .before .before .loop .inv .0 .terms) (c .before .before .before .before .before .before .before .loop-test .taken) (c .before .before .before .before .before .wide-byte .result) (c .before .before .before .before .before .wide-byte .ensures))
 
 array-read-due-after : tie.Need-array-read-due-after Inv-loop μ-loop
-array-read-due-after c = kind-known (c .before .before .before .before .before .before .before .before .before .before .args .bytes .now) (c .before .before .before .before .before .before .before .before .loop .at) _ (c .before .before .before .before .before .before .before .before .loop .inv .0 .terms) (c .before .before .before .before .before .before .before .loop-test .taken) (c .before .before .before .before .before .wide .result) (c .before .before .before .before .before .wide .ensures)
+array-read-due-after c = kind-known (c .before .before .before .before .before .before .before .before .before .before .args .bytes .now) (c .before .before .before .before .before .before .before .before .loop .at) _ (c .before .before .before .before .before .before .before .before .loop .inv .0 .terms) (c .before .before .before .before .before .before .before .loop-test .taken) (c .before .before .before .before .before .wide-byte .result) (c .before .before .before .before .before .wide-byte .ensures)
 
 due-after-requires : tie.Need-due-after-requires Inv-loop μ-loop
-due-after-requires c κs = (omega (arith, children-few (c .before .before .before .before .before .wide .result) (kind-known (c .before .before .before .before .before .before .before .before .before .before .args .bytes .now) (c .before .before .before .before .before .before .before .before .loop .at) _ (c .before .before .before .before .before .before .before .before .loop .inv .0 .terms) (c .before .before .before .before .before .before .before .loop-test .taken) (c .before .before .before .before .before .wide .result) (c .before .before .before .before .before .wide .ensures))), omega (arith, due-small (c .before .before .before .before .before .before .before .before .before .before .args .bytes .now) (c .before .before .before .before .before .before .before .before .loop .marks) (c .before .before .before .before .before .before .before .before .before .before .args .key) (c .before .before .before .before .before .before .before .before .loop .at) (c .before .before .before .before .before .before .before .before .loop .due) (c .before .before .before .before .before .before .before .before .loop .n) (c .before .before .before .before .before .before .before .before .loop .inv .0), c .before .before .before .before .before .before .before .before .before .before .good .0 .1))
+due-after-requires c κs = (omega (arith, children-few (c .before .before .before .before .before .wide-byte .result) (kind-known (c .before .before .before .before .before .before .before .before .before .before .args .bytes .now) (c .before .before .before .before .before .before .before .before .loop .at) _ (c .before .before .before .before .before .before .before .before .loop .inv .0 .terms) (c .before .before .before .before .before .before .before .loop-test .taken) (c .before .before .before .before .before .wide-byte .result) (c .before .before .before .before .before .wide-byte .ensures))), omega (arith, due-small (c .before .before .before .before .before .before .before .before .before .before .args .bytes .now) (c .before .before .before .before .before .before .before .before .loop .marks) (c .before .before .before .before .before .before .before .before .before .before .args .key) (c .before .before .before .before .before .before .before .before .loop .at) (c .before .before .before .before .before .before .before .before .loop .due) (c .before .before .before .before .before .before .before .before .loop .n) (c .before .before .before .before .before .before .before .before .loop .inv .0), c .before .before .before .before .before .before .before .before .before .before .good .0 .1))
 
 mul-at : tie.Need-mul-at Inv-loop μ-loop
-mul-at c = omega (arith, kind-known (c .before .before .before .before .before .before .before .before .before .before .before .args .bytes .now) (c .before .before .before .before .before .before .before .before .before .loop .at) _ (c .before .before .before .before .before .before .before .before .before .loop .inv .0 .terms) (c .before .before .before .before .before .before .before .before .loop-test .taken) (c .before .before .before .before .before .before .wide .result) (c .before .before .before .before .before .before .wide .ensures))
+mul-at c = omega (arith, kind-known (c .before .before .before .before .before .before .before .before .before .before .before .args .bytes .now) (c .before .before .before .before .before .before .before .before .before .loop .at) _ (c .before .before .before .before .before .before .before .before .before .loop .inv .0 .terms) (c .before .before .before .before .before .before .before .before .loop-test .taken) (c .before .before .before .before .before .before .wide-byte .result) (c .before .before .before .before .before .before .wide-byte .ensures))
 
 array-read-at : tie.Need-array-read-at Inv-loop μ-loop
-array-read-at c = kind-known (c .before .before .before .before .before .before .before .before .before .before .before .args .bytes .now) (c .before .before .before .before .before .before .before .before .before .loop .at) _ (c .before .before .before .before .before .before .before .before .before .loop .inv .0 .terms) (c .before .before .before .before .before .before .before .before .loop-test .taken) (c .before .before .before .before .before .before .wide .result) (c .before .before .before .before .before .before .wide .ensures)
+array-read-at c = kind-known (c .before .before .before .before .before .before .before .before .before .before .before .args .bytes .now) (c .before .before .before .before .before .before .before .before .before .loop .at) _ (c .before .before .before .before .before .before .before .before .before .loop .inv .0 .terms) (c .before .before .before .before .before .before .before .before .loop-test .taken) (c .before .before .before .before .before .before .wide-byte .result) (c .before .before .before .before .before .before .wide-byte .ensures)
 
 add-at : tie.Need-add-at Inv-loop μ-loop
-add-at c = omega (arith, ends-within (c .before .before .before .before .before .before .before .before .before .before .before .args .bytes .now) (c .before .before .before .before .before .before .before .before .before .loop .at) _ (c .before .before .before .before .before .before .before .before .before .loop .inv .0 .terms) (c .before .before .before .before .before .before .before .before .loop-test .taken) (c .before .before .before .before .before .before .wide .result) (c .before .before .before .before .before .before .wide .ensures))
+add-at c = omega (arith, ends-within (c .before .before .before .before .before .before .before .before .before .before .before .args .bytes .now) (c .before .before .before .before .before .before .before .before .before .loop .at) _ (c .before .before .before .before .before .before .before .before .before .loop .inv .0 .terms) (c .before .before .before .before .before .before .before .before .loop-test .taken) (c .before .before .before .before .before .before .wide-byte .result) (c .before .before .before .before .before .before .wide-byte .ensures))
 
 add-at-2 : tie.Need-add-at-2 Inv-loop μ-loop
-add-at-2 c = omega (arith, ends-within (c .before .before .before .before .before .before .before .before .before .before .before .args .bytes .now) (c .before .before .before .before .before .before .before .before .before .loop .at) _ (c .before .before .before .before .before .before .before .before .before .loop .inv .0 .terms) (c .before .before .before .before .before .before .before .before .loop-test .taken) (c .before .before .before .before .before .before .wide .result) (c .before .before .before .before .before .before .wide .ensures))
+add-at-2 c = omega (arith, ends-within (c .before .before .before .before .before .before .before .before .before .before .before .args .bytes .now) (c .before .before .before .before .before .before .before .before .before .loop .at) _ (c .before .before .before .before .before .before .before .before .before .loop .inv .0 .terms) (c .before .before .before .before .before .before .before .before .loop-test .taken) (c .before .before .before .before .before .before .wide-byte .result) (c .before .before .before .before .before .before .wide-byte .ensures))
 
 loop-less : tie.Need-loop-less Inv-loop μ-loop
-loop-less c = omega (arith, ends-within (c .before .before .before .before .before .before .before .before .before .before .before .args .bytes .now) (c .before .before .before .before .before .before .before .before .before .loop .at) _ (c .before .before .before .before .before .before .before .before .before .loop .inv .0 .terms) (c .before .before .before .before .before .before .before .before .loop-test .taken) (c .before .before .before .before .before .before .wide .result) (c .before .before .before .before .before .before .wide .ensures))
+loop-less c = omega (arith, ends-within (c .before .before .before .before .before .before .before .before .before .before .before .args .bytes .now) (c .before .before .before .before .before .before .before .before .before .loop .at) _ (c .before .before .before .before .before .before .before .before .before .loop .inv .0 .terms) (c .before .before .before .before .before .before .before .before .loop-test .taken) (c .before .before .before .before .before .before .wide-byte .result) (c .before .before .before .before .before .before .wide-byte .ensures))
 
 loop-again : tie.Need-loop-again Inv-loop μ-loop
-loop-again c = (onward (c .before .before .before .before .before .before .before .before .before .before .before .args .bytes .now) (c .before .before .before .before .before .before .before .before .before .loop .marks) (c .before .before .before .before .before .before .before .before .before .before .before .args .key) (c .before .before .before .before .before .before .before .before .before .loop .at) (c .before .before .before .before .before .before .before .before .before .loop .due) (c .before .before .before .before .before .before .before .before .before .loop .n) (c .before .before .before .before .before .before .before .before .before .loop .inv .0) (c .before .before .before .before .before .before .before .before .loop-test .taken) (c .before .before .before .before .before .before .before .before .before .before .before .pre .1 .0) (c .before .before .before .before .before .key-at .result) (c .before .before .before .before .before .key-at .ensures) (c .before .before .before .to-mark .result) (c .before .before .before .to-mark .ensures) _ _ (c .before .before .mark .ensures) (c .before .before .before .before .before .before .wide .result) (c .before .before .before .before .before .before .wide .ensures) (c .due-after .result) (c .due-after .ensures), standing.onward (c .before .before .before .before .before .before .before .before .before .before .before .args .bytes .now) (c .before .before .before .before .before .before .before .before .before .before .before .args .key) (c .before .before .before .before .before .before .before .before .before .loop .at) (c .before .before .before .before .before .before .before .before .before .loop .met) (c .before .before .before .before .before .before .before .before .before .loop .inv .1) (c .before .before .before .before .before .before .before .before .loop-test .taken) (c .before .before .before .before .before .before .before .before .before .before .before .pre .1 .0) (c .before .before .before .before .before .key-at .result) (c .before .before .before .before .before .key-at .ensures) (c .before .met-by .result) (c .before .met-by .ensures) (c .before .before .before .before .before .before .wide .result) (c .before .before .before .before .before .before .wide .ensures))
+loop-again c = (onward (c .before .before .before .before .before .before .before .before .before .before .before .args .bytes .now) (c .before .before .before .before .before .before .before .before .before .loop .marks) (c .before .before .before .before .before .before .before .before .before .before .before .args .key) (c .before .before .before .before .before .before .before .before .before .loop .at) (c .before .before .before .before .before .before .before .before .before .loop .due) (c .before .before .before .before .before .before .before .before .before .loop .n) (c .before .before .before .before .before .before .before .before .before .loop .inv .0) (c .before .before .before .before .before .before .before .before .loop-test .taken) (c .before .before .before .before .before .before .before .before .before .before .before .pre .1 .0) (c .before .before .before .before .before .key-at .result) (c .before .before .before .before .before .key-at .ensures) (c .before .before .before .to-mark .result) (c .before .before .before .to-mark .ensures) _ _ (c .before .before .mark .ensures) (c .before .before .before .before .before .before .wide-byte .result) (c .before .before .before .before .before .before .wide-byte .ensures) (c .due-after .result) (c .due-after .ensures), standing.onward (c .before .before .before .before .before .before .before .before .before .before .before .args .bytes .now) (c .before .before .before .before .before .before .before .before .before .before .before .args .key) (c .before .before .before .before .before .before .before .before .before .loop .at) (c .before .before .before .before .before .before .before .before .before .loop .met) (c .before .before .before .before .before .before .before .before .before .loop .inv .1) (c .before .before .before .before .before .before .before .before .loop-test .taken) (c .before .before .before .before .before .before .before .before .before .before .before .pre .1 .0) (c .before .before .before .before .before .key-at .result) (c .before .before .before .before .before .key-at .ensures) (c .before .met-by .result) (c .before .met-by .ensures) (c .before .before .before .before .before .before .wide-byte .result) (c .before .before .before .before .before .before .wide-byte .ensures))
 
 returns : tie.Need-returns Inv-loop μ-loop
 returns c = (standing.stands (c .before .before .before .args .bytes .now) (c .before .before .before .args .key) (c .before .loop .at) (c .before .loop .met) (c .before .loop .inv .1) (c .loop-test .left) (c .before .before .before .pre .1 .0), marked-below (c .before .before .before .args .bytes .now) (c .before .loop .marks) (c .before .before .before .args .key) (c .before .loop .at) (c .before .loop .due) (c .before .loop .n) (c .before .loop .inv .0) (c .loop-test .left))
@@ -77,8 +77,8 @@ mark-below-spec =
     Inv-loop
     μ-loop
     loop-holds
-    shared-slice-read-wide
-    wide-requires
+    shared-slice-read-wide-byte
+    wide-byte-requires
     key-at-requires
     to-mark-requires
     mark-requires

@@ -35,9 +35,9 @@ use denote.Triple.Table.{entered, cited}
 use denote.Triple.Walked.{says, Stays, stay-none, stay-none-slice, walkOf, goes-none, goes-none-slice, Walks, ends-at, walked, walk-meets}
 use denote.Exit.{yes}
 use denote.Triple.Clauses.{ensured, lasts}
-use Rattle.reader.specs.declared.Node.{Node}
-use Rattle.reader.proofs.Node as N
-use Rattle.reader.proofs.Node.Laws as N′
+use Rattle.shared.specs.declared.Node.{Node}
+use Rattle.shared.proofs.Node as N
+use Rattle.shared.proofs.Node.Laws as N′
 use Rattle.cursor.specs.At.{Opens, Shows}
 use Rattle.cursor.specs.declared.Shown.{Shown}
 use Rattle.cursor.proofs.Shown as S

@@ -1,6 +1,6 @@
 -- `put_steps` is safe and ends: what is gathered stays within the buffer, and the budget of steps falls.
 use borrow.Author.Needs.{needs}
-use mathlib.Core.Path.{_≡_, sym, _∙_}
+use mathlib.Core.Path.{_≡_}
 use Prim.Native.Nat.{_≤_, _-_}
 use lib.ListN.{length}
 use Rattle.listing.proofs.lines.put_steps.Statement.{statement}

@@ -5,7 +5,6 @@ use Prim.Native.Nat.{_≤_, _-_}
 use lib.ListN.{length}
 use Rattle.listing.proofs.lines.put_undos.Statement.{statement}
 use Rattle.listing.proofs.lines.put_undos.Tie as tie
-use Rattle.listing.proofs.lines.put_undo.Reads as put-undo-reads
 
 abbrev Inv-loop : tie.InvT-loop
 Inv-loop space₀ n row labels count at₀ i₀ space at i = (at ≤ 4096) × (length space ≡ 4096) × (i ≤ count)

@@ -9,7 +9,7 @@ over-restriction-requires : tie.Need-over-restriction-requires
 over-restriction-requires c κs = search needs
 
 returns : tie.Need-returns
-returns c = let a = c .before .args in λ ask i n t f. found-restricted ask i n (a .name) t (a .below) _ f refl refl refl refl refl (c .over-restriction .ensures)
+returns c = let a = c .before .args in λ ask i n t f. found-restricted ask i n (a .name .0) t (a .below) _ f refl refl refl refl refl (c .over-restriction .ensures)
 
 pub at-restriction-spec : {M : Type 1} → statement M
 at-restriction-spec = tie.close (tie.spec over-restriction-requires returns)

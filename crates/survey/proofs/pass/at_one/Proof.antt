@@ -37,11 +37,11 @@ at-prefix-requires c κs = search needs
 returns : tie.Need-returns
 returns c = record { prefix = λ q t. rw (c .before .before .before .narrow .ensures, c .before .before .narrow2 .ensures, c .before .before .before .before .key-of .ensures) at (c .at-prefix .ensures t); restriction = λ q. absurd (q (c .before .before .before .before .before .before .before .if1 .taken)) }
 
-add-at-restriction : tie.Need-add-at-restriction
-add-at-restriction c = search needs
+add-a : tie.Need-add-a
+add-a c = search needs
 
-shared-slice-read-at-restriction : tie.Need-shared-slice-read-at-restriction
-shared-slice-read-at-restriction c = search needs
+shared-slice-read-a : tie.Need-shared-slice-read-a
+shared-slice-read-a c = search needs
 
 at-restriction-requires : tie.Need-at-restriction-requires
 at-restriction-requires c κs = search needs
@@ -64,7 +64,7 @@ at-one-spec =
     shared-slice-read-at-prefix
     at-prefix-requires
     returns
-    add-at-restriction
-    shared-slice-read-at-restriction
+    add-a
+    shared-slice-read-a
     at-restriction-requires
     returns-2)

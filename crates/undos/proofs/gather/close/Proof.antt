@@ -4,14 +4,14 @@ use borrow.Author.Needs.{needs}
 use Rattle.undos.proofs.gather.close.Statement.{statement}
 use Rattle.undos.proofs.gather.close.Tie as tie
 
-add-wide : tie.Need-add-wide
-add-wide c = search needs
+add-a : tie.Need-add-a
+add-a c = search needs
 
-shared-slice-read-wide : tie.Need-shared-slice-read-wide
-shared-slice-read-wide c = search needs
+shared-slice-read-a : tie.Need-shared-slice-read-a
+shared-slice-read-a c = search needs
 
-wide-requires : tie.Need-wide-requires
-wide-requires c κs = search needs
+slot-requires : tie.Need-slot-requires
+slot-requires c κs = search needs
 
 mul-scopes : tie.Need-mul-scopes
 mul-scopes c = search needs
@@ -20,15 +20,15 @@ element-write-scopes : tie.Need-element-write-scopes
 element-write-scopes c = search needs
 
 returns : tie.Need-returns
-returns c = closes (c .before .before .before .args .s .now) (c .before .before .before .args .at) (c .wide .result) (c .before .before .before .args .outer) (c .before .before .before .args .scopes .now) (c .wide .ensures)
+returns c = closes (c .before .before .before .args .s .now) (c .before .before .before .args .at) (c .slot .result) (c .before .before .before .args .outer) (c .before .before .before .args .scopes .now) (c .slot .ensures)
 
 pub close-spec : {M : Type 1} → statement M
 close-spec =
     tie.close
     (tie.spec
-    add-wide
-    shared-slice-read-wide
-    wide-requires
+    add-a
+    shared-slice-read-a
+    slot-requires
     mul-scopes
     element-write-scopes
     returns)

@@ -30,20 +30,20 @@ mul-all c = search needs
 element-write-all : tie.Need-element-write-all
 element-write-all c = search needs
 
-add-t15 : tie.Need-add-t15
-add-t15 c = search needs
+add-t16 : tie.Need-add-t16
+add-t16 c = search needs
 
 returns-2 : tie.Need-returns-2
 returns-2 c = enter-done (c .before .before .before .before .before .before .args .s .now) (c .before .before .before .before .before .before .args .at) _ _ _ (c .before .before .before .before .before .before .args .all .now) (c .before .before .before .before .before .before .args .scopes .now) _ (c .before .key-of .result) (c .before .before .before .before .if1 .taken) (c .before .key-of .ensures) (c .if2 .left) (omega (arith, c .before .before .before .before .before .before .pre .1)) refl
 
-add-wide : tie.Need-add-wide
-add-wide c = omega (arith, c .before .before .before .pre .0 .1 (c .if3 .taken))
+add-a : tie.Need-add-a
+add-a c = omega (arith, c .before .before .before .pre .0 .1 (c .if3 .taken))
 
-shared-slice-read-wide : tie.Need-shared-slice-read-wide
-shared-slice-read-wide c = omega (arith, c .before .before .before .before .pre .0 .1 (c .before .if3 .taken))
+shared-slice-read-a : tie.Need-shared-slice-read-a
+shared-slice-read-a c = omega (arith, c .before .before .before .before .pre .0 .1 (c .before .if3 .taken))
 
-wide-requires : tie.Need-wide-requires
-wide-requires c κs = search needs
+slot-requires : tie.Need-slot-requires
+slot-requires c κs = search needs
 
 mul-outer : tie.Need-mul-outer
 mul-outer c = search needs
@@ -64,7 +64,7 @@ element-write-scopes : tie.Need-element-write-scopes
 element-write-scopes c = search needs
 
 returns-3 : tie.Need-returns-3
-returns-3 c = enter-restriction (c .before .before .before .before .before .before .args .s .now) (c .before .before .before .before .before .before .args .at) _ _ _ (c .before .before .before .before .before .before .args .all .now) (c .before .before .before .before .before .before .args .scopes .now) _ (c .before .wide .result) (c .before .before .before .if3 .taken) (c .before .wide .ensures) refl refl
+returns-3 c = enter-restriction (c .before .before .before .before .before .before .args .s .now) (c .before .before .before .before .before .before .args .at) _ _ _ (c .before .before .before .before .before .before .args .all .now) (c .before .before .before .before .before .before .args .scopes .now) _ (c .before .slot .result) (c .before .before .before .if3 .taken) (c .before .slot .ensures) refl refl
 
 returns-4 : tie.Need-returns-4
 returns-4 c = enter-two (c .before .before .before .args .s .now) (c .before .before .before .args .at) _ _ _ (c .before .before .before .args .all .now) (c .before .before .before .args .scopes .now) _ (c .before .if1 .left) (c .if3 .left) refl
@@ -81,11 +81,11 @@ enter-spec =
     returns
     mul-all
     element-write-all
-    add-t15
+    add-t16
     returns-2
-    add-wide
-    shared-slice-read-wide
-    wide-requires
+    add-a
+    shared-slice-read-a
+    slot-requires
     mul-outer
     element-copy-out-outer
     add-scopes

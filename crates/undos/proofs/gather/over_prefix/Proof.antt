@@ -1,5 +1,5 @@
 -- `over_prefix` meets its contract: none stays, the prefix itself is pushed, or those below stay.
-use Prim.Native.Nat.{_+_, _%_}
+use Prim.Native.Nat.{_+_}
 use lib.ListN.{getD, length-set}
 use mathlib.Core.Path.{refl}
 use native.Mathlib.Omega.{arith}
@@ -42,14 +42,14 @@ shared-slice-read-action c = search needs
 element-write-action : tie.Need-element-write-action
 element-write-action c = search needs
 
-add-wide : tie.Need-add-wide
-add-wide c = search needs
+add-slot-of : tie.Need-add-slot-of
+add-slot-of c = search needs
 
-shared-slice-read-wide : tie.Need-shared-slice-read-wide
-shared-slice-read-wide c = search needs
+shared-slice-read-slot-of : tie.Need-shared-slice-read-slot-of
+shared-slice-read-slot-of c = search needs
 
-wide-requires : tie.Need-wide-requires
-wide-requires c κs = search needs
+slot-of-requires : tie.Need-slot-of-requires
+slot-of-requires c κs = search needs
 
 mul-scope : tie.Need-mul-scope
 mul-scope c = search needs
@@ -67,7 +67,7 @@ add-result : tie.Need-add-result
 add-result c = search needs
 
 returns-2 : tie.Need-returns-2
-returns-2 c = (over-own (c .before .before .before .before .before .before .before .before .before .before .args .s .now) (c .before .before .before .before .before .before .before .before .before .before .args .at) (c .before .before .before .before .before .before .before .before .before .before .args .keys) (c .before .before .before .before .before .before .before .before .before .before .args .k) (c .before .before .before .before .before .before .before .before .before .before .args .lasts) (c .before .before .before .before .before .before .before .before .before .before .args .l) (c .before .before .before .before .before .before .before .before .before .before .args .key .now) (c .before .before .before .before .before .before .before .before .before .before .args .action .now) (c .before .before .before .before .before .before .before .before .before .before .args .scope .now) (c .before .before .before .before .before .before .before .before .before .before .args .scopes .now) (c .before .before .before .before .before .before .key-of .result) (c .before .before .before .before .before .before .key-of .ensures) (getD (c .before .before .before .before .before .before .before .before .before .before .args .s .now) (c .before .before .before .before .before .before .before .before .before .before .args .at + 1) 0) (c .before .wide .result) (getD (c .before .before .before .before .before .before .before .before .before .before .args .scopes .now) (c .before .wide .result % 128) 0) (c .before .before .before .before .before .if1 .left) (c .before .before .before .before .if2 .taken) (omega (arith, rows-length 4096 (c .before .before .before .before .before .before .before .before .before .before .args .key .now) (c .before .before .before .before .before .before .before .before .before .before .args .action .now) (c .before .before .before .before .before .before .before .before .before .before .args .scope .now) (c .before .before .before .before .before .before .before .before .before .before .pre .1 .0) (c .before .before .before .before .before .before .before .before .before .before .pre .1 .1) (c .before .before .before .before .before .before .before .before .before .before .pre .1 .2), c .before .before .before .before .before .before .before .before .before .before .pre .0 .1)) refl (c .before .wide .ensures) refl, simp length-set (c .before .before .before .before .before .before .before .before .before .before .pre .1 .0), simp length-set (c .before .before .before .before .before .before .before .before .before .before .pre .1 .1), simp length-set (c .before .before .before .before .before .before .before .before .before .before .pre .1 .2))
+returns-2 c = (over-own (c .before .before .before .before .before .before .before .before .before .before .args .s .now) (c .before .before .before .before .before .before .before .before .before .before .args .at) (c .before .before .before .before .before .before .before .before .before .before .args .keys) (c .before .before .before .before .before .before .before .before .before .before .args .k) (c .before .before .before .before .before .before .before .before .before .before .args .lasts) (c .before .before .before .before .before .before .before .before .before .before .args .l) (c .before .before .before .before .before .before .before .before .before .before .args .key .now) (c .before .before .before .before .before .before .before .before .before .before .args .action .now) (c .before .before .before .before .before .before .before .before .before .before .args .scope .now) (c .before .before .before .before .before .before .before .before .before .before .args .scopes .now) (c .before .before .before .before .before .before .key-of .result) (c .before .before .before .before .before .before .key-of .ensures) (getD (c .before .before .before .before .before .before .before .before .before .before .args .s .now) (c .before .before .before .before .before .before .before .before .before .before .args .at + 1) 0) (c .before .slot-of .result) (getD (c .before .before .before .before .before .before .before .before .before .before .args .scopes .now) (c .before .slot-of .result) 0) (c .before .before .before .before .before .if1 .left) (c .before .before .before .before .if2 .taken) (omega (arith, rows-length 4096 (c .before .before .before .before .before .before .before .before .before .before .args .key .now) (c .before .before .before .before .before .before .before .before .before .before .args .action .now) (c .before .before .before .before .before .before .before .before .before .before .args .scope .now) (c .before .before .before .before .before .before .before .before .before .before .pre .1 .0) (c .before .before .before .before .before .before .before .before .before .before .pre .1 .1) (c .before .before .before .before .before .before .before .before .before .before .pre .1 .2), c .before .before .before .before .before .before .before .before .before .before .pre .0 .1)) refl (c .before .slot-of .ensures) refl, simp length-set (c .before .before .before .before .before .before .before .before .before .before .pre .1 .0), simp length-set (c .before .before .before .before .before .before .before .before .before .before .pre .1 .1), simp length-set (c .before .before .before .before .before .before .before .before .before .before .pre .1 .2))
 
 returns-3 : tie.Need-returns-3
 returns-3 c = (over-below (c .before .before .before .before .before .before .args .s .now) (c .before .before .before .before .before .before .args .at) (c .before .before .before .before .before .before .args .keys) (c .before .before .before .before .before .before .args .k) (c .before .before .before .before .before .before .args .lasts) (c .before .before .before .before .before .before .args .l) (c .before .before .before .before .before .before .args .key .now) (c .before .before .before .before .before .before .args .action .now) (c .before .before .before .before .before .before .args .scope .now) (c .before .before .before .before .before .before .args .scopes .now) (c .before .before .key-of .result) (c .before .before .key-of .ensures) (c .before .if1 .left) (c .if2 .left), c .before .before .before .before .before .before .pre .1 .0, c .before .before .before .before .before .before .pre .1 .1, c .before .before .before .before .before .before .pre .1 .2)
@@ -87,9 +87,9 @@ over-prefix-spec =
     add-action
     shared-slice-read-action
     element-write-action
-    add-wide
-    shared-slice-read-wide
-    wide-requires
+    add-slot-of
+    shared-slice-read-slot-of
+    slot-of-requires
     mul-scope
     element-copy-out-scope
     mul-scope-2

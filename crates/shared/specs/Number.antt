@@ -1,14 +1,14 @@
 -- The refusal number and the value of an answer that is a number (01, Operations and their refusals).
 use Prim.Native.Nat.{ℕ}
-use Rattle.keys.specs.declared.Number.{Number}
-use Rattle.keys.specs.declared.Number.the-variants.{Refused, Is}
+use Rattle.shared.specs.declared.Number.{Number}
+use Rattle.shared.specs.declared.Number.the-variants.{Refused, Is}
 
 -- the refusal number; 0 where the answer is a number
 abbrev pub refusal : Number → ℕ
 refusal (Refused c) = c
 refusal (Is n) = 0
 
--- the number; 0 where the record is refused
+-- the number; 0 where the operation is refused
 abbrev pub value : Number → ℕ
 value (Refused c) = 0
 value (Is n) = n

@@ -1,2 +1,0 @@
--- The answer of an operation that fills a lent row.
-pub mod Row
