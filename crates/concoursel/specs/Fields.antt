@@ -1,4 +1,5 @@
--- How a host takes an answer apart: the fields, as the macros of include/concoursel.h take them, and the node that it has of a walk's answer.
+-- How a host takes an answer apart: the fields, as the macros of include/concoursel.h take them (tests/macros compares the two), and the
+-- node that it has of a walk's answer.
 use mathlib.Core.List.{List, [], _∷_}
 use Prim.Native.Nat.{ℕ, _/_, _%_, _^_}
 use lib.ListN.{take}
@@ -39,9 +40,9 @@ p-of answer = field 16 16 answer
 abbrev pub q-of : ℕ → Node
 q-of answer = field 0 16 answer
 
--- CONCOURSEL_NUMBER: the same bits
+-- CONCOURSEL_NUMBER
 abbrev pub number-of : ℕ → ℕ
-number-of answer = q-of answer
+number-of answer = field 0 16 answer
 
 -- CONCOURSEL_KIND
 abbrev pub kind-of : ℕ → ℕ

@@ -91,7 +91,7 @@ fn warn_of_emulator() {
     }
 }
 
-/// Time of the library over time of the reference at 1,000 and 4,000 nodes, and the worst of each operation.
+/// Time of the library over time of the reference at 100, 1,000 and 4,000 nodes, and the worst of each operation.
 pub fn ratios() -> bool {
     warn_of_emulator();
     println!(
@@ -100,7 +100,7 @@ pub fn ratios() -> bool {
     );
     let mut worst: Vec<(&str, f64, String)> = Vec::new();
     for (shape, build) in SHAPES {
-        for nodes in [1000, 4000] {
+        for nodes in [100, 1000, 4000] {
             let record = build(nodes);
             let nodes = reference::read(&record).expect("the shapes are readable");
             for (operation, call) in timed_calls(&record) {
