@@ -1,8 +1,8 @@
 // The labels of the undos of a record, for all keys of a row in one pass over the record. Helpers between crates, with what each asks of
 // its caller.
 use keys::key_at;
-use reader::NO_ACTION;
 use reader::NODES;
+use shared::NO_ACTION;
 use shared::TAU;
 ghost use mathlib.Core.Path.{_≡_};
 ghost use Prim.Native.Nat.{_+_, _<_, _≤_};

@@ -5,10 +5,10 @@ ghost use lib.ListN.{length};
 ghost use Rattle.format.specs.Limits.{node-limit};
 ghost use Rattle.links.specs.Classes.{class, classes};
 ghost use Rattle.links.specs.Links.{turn, Scoped, Linked};
-use reader::NO_ACTION;
 use reader::NODES;
 use shared::CO;
 use shared::NAMES;
+use shared::NO_ACTION;
 
 // The end of each chain of links.
 pub const NONE: u16 = NODES as u16;

@@ -6,6 +6,8 @@ ghost use Rattle.operations.specs.Ask.{ReadRecord};
 ghost use Rattle.reader.specs.Head.{body, childCount, Tables, Headed};
 ghost use Rattle.reader.specs.Walk.{Due};
 ghost use Rattle.shared.specs.Number.{refusal, value};
+use shared::LAST_NAME;
+use shared::NO_ACTION;
 use shared::NO_RECORD;
 use shared::Number;
 use shared::OVER_LIMIT;
@@ -35,11 +37,6 @@ pub const KINDS: usize = 5;
 pub const BODY: [usize; KINDS] = [0, 3, 0, 0, 1];
 
 pub const CHILDREN: [usize; KINDS] = [0, 1, 2, 2, 1];
-
-// The byte that is no action, and the greatest name.
-pub const NO_ACTION: u8 = 128;
-
-pub const LAST_NAME: u8 = 127;
 
 // What stands at a place: a refusal, or a node with so many children, whose body ends at `next`.
 pub enum Head {

@@ -13,8 +13,8 @@ ghost use Rattle.search.specs.Scan.{Agrees, Settled, Seeks, LowSides, Cl
 use index::index;
 use links::link;
 use links::turned;
-use reader::NO_ACTION;
 use reader::NODES;
+use shared::NO_ACTION;
 use shared::Node;
 use shared::Number;
 use shared::wide;

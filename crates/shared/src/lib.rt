@@ -20,10 +20,14 @@ pub enum Number {
     Is(usize),
 }
 
-// Labels (01, The record): tau, and what a co-name adds to its name. That number itself is no action.
+// Labels (01, The record): tau, the greatest name, what a co-name adds to its name, and the byte that is no action.
 pub const TAU: u8 = 0;
 
+pub const LAST_NAME: u8 = 127;
+
 pub const CO: u8 = 128;
+
+pub const NO_ACTION: u8 = 128;
 
 // A name and its co-name share a place in a table by names.
 pub const NAMES: usize = 128;

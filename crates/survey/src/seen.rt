@@ -1,6 +1,6 @@
 // What one pass finds of a part of a record, and how the moves of its parts combine at each node.
-use reader::LAST_NAME;
 use shared::CO;
+use shared::LAST_NAME;
 use shared::NOT_DONE;
 use shared::Name;
 use shared::TAU;
