@@ -3,6 +3,7 @@ ghost use mathlib.Core.Path.{_≡_};
 ghost use mathlib.Core.List.{[]};
 ghost use Prim.Native.Nat.{_+_, _<_};
 ghost use lib.ListN.{length, getD};
+ghost use Rattle.ccsk.specs.Numbers.{distinct};
 ghost use Rattle.format.specs.Flat.{keyAt};
 ghost use Rattle.operations.specs.Ask.{KeyCount, FreeKey};
 ghost use Rattle.operations.specs.Change.{BlankForm};
@@ -36,6 +37,20 @@ pub fn mark(marks: &mut [u8; BYTES], key: u16) -> usize
         return 0;
     }
     keyset::add(marks, key)
+}
+
+// Puts the keys of a column into an empty set: how many different ones there are. A helper between crates.
+pub fn mark_all(column: &[u16], marks: &mut [u8; BYTES]) -> usize
+    requires { ⌜ Holds (now marks) [] ⌝ }
+    ensures { λ r. ⌜ Holds (now (marks .exit)) (now (column .entry)) × (r ≡ distinct (now (column .entry))) ⌝ }
+{
+    let mut i: usize = 0;
+    let mut n: usize = 0;
+    while i < column.len() {
+        n += keyset::add(marks, column[i]);
+        i += 1;
+    }
+    n
 }
 
 // Marks the keys of a readable record in an empty set: how many different ones there are. The table of the kinds is laid out once, before

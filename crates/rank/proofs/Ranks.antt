@@ -1,15 +1,15 @@
 -- Ranks number the members of a set: they ascend with the members, start at 0, and end at the number of different members.
 use mathlib.Core.Path.{_≡_, refl, sym, _∙_}
-use mathlib.Core.Logic.{_↔_}
 use mathlib.Core.List.{List, [], _∷_}
 use mathlib.Core.Bool.{Bool, true, false}
 use Prim.Native.Nat.{ℕ, zero, suc, _+_, _-_, _<_, _≤_}
 use native.Mathlib.Decide.{ℕ-discrete, decLt}
 use native.Mathlib.Omega.{arith}
 use lib.ListN.{length, length-append}
-use Rattle.ccsk.specs.Numbers.{In, distinct}
+use Rattle.ccsk.specs.Numbers.{distinct}
+use Rattle.ccsk.proofs.Lists.{distinct-length}
 use Rattle.keyset.specs.Set.{member, tick, membersBelow}
-use Rattle.keyset.proofs.Counts.{members-count}
+use Rattle.keyset.proofs.Counts.{Members, members-count}
 use Rattle.rank.specs.Rank.{one-more, rank}
 
 pub rank-in : (s : List ℕ) (k : ℕ) → member s k ≡ true → rank s (suc k) ≡ suc (rank s k)
@@ -84,5 +84,9 @@ rank-length s (suc k) = pick (member s k) (rank-length s k)
     pick false e = e
 
 -- the rank of n is how many different numbers a list has whose numbers are the members below n
-pub rank-counts : (s : List ℕ) (n : ℕ) (l : List ℕ) → ((k : ℕ) → In k l ↔ ((k < n) × (member s k ≡ true))) → rank s n ≡ distinct l
+pub rank-counts : (s : List ℕ) (n : ℕ) (l : List ℕ) → Members s n l → rank s n ≡ distinct l
 rank-counts s n l f = rank-length s n ∙ members-count s n l f
+
+-- and so no more than the list is long
+pub rank-few : (s : List ℕ) (n : ℕ) (l : List ℕ) → Members s n l → rank s n ≤ length l
+rank-few s n l f = omega (arith, rank-counts s n l f, distinct-length l)

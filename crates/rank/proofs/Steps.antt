@@ -3,7 +3,7 @@ use mathlib.Core.Path.{_≡_, refl, sym, _∙_}
 use mathlib.Core.List.{List}
 use mathlib.Core.Bool.{Bool, true, false}
 use Prim.Native.Nat.{ℕ, zero, suc, _+_, _*_, _<_, _≤_, _/_, _%_}
-use native.Mathlib.Decide.{ℕ-discrete}
+use native.Mathlib.Decide.{ℕ-discrete, decLt}
 use native.Mathlib.Numerals.{add-one}
 use native.Mathlib.Omega.{arith}
 use lib.ListN.{length, getD, set}
@@ -11,7 +11,7 @@ use lib.Seq.{getD-set-same, getD-set-other}
 use Rattle.keyset.specs.Set.{member}
 use Rattle.keyset.proofs.Bits.{empty-bit}
 use Rattle.rank.specs.Rank.{one-more, rank, Ranked}
-use Rattle.rank.proofs.Ranks.{rank-out}
+use Rattle.rank.proofs.Ranks.{rank-out, rank-ordered, rank-less}
 
 -- an empty byte holds none of its numbers
 empty-byte : (s : List ℕ) (i k : ℕ) → getD s i 0 ≡ 0 → k / 8 ≡ i → member s k ≡ false
@@ -58,9 +58,25 @@ pub rank-nothing : (s : List ℕ) → 0 ≡ rank s 0
 unfolding rank
 rank-nothing s = refl
 
--- what was written down for the byte of a key
-pub first-of-byte : (s base : List ℕ) (k w n : ℕ) → Ranked s base → k < 65536 → w ≡ k → n ≡ getD base (w / 8) 0 → n ≡ rank s (w / 8 * 8)
-first-of-byte s base k w n r h e q = q ∙ r .first (w / 8) (omega arith)
+-- a byte is left as long as a member is not ranked
+pub byte-left : (s : List ℕ) (i n many : ℕ) → n ≡ rank s (i * 8) → many ≡ rank s 65536 → n < many → i < 8192
+byte-left s i n many e q h = pick (decLt i 8192)
+  where
+    pick : Dec (i < 8192) → i < 8192
+    pick (yes l) = l
+    pick (no l) = absurd (omega (arith, rank-ordered s 65536 (i * 8) (omega arith)))
+
+-- once all are ranked, each stands in a byte that was passed
+pub all-ranked : (s base : List ℕ) (i n many : ℕ) → length base ≡ 8192 → n ≡ rank s (i * 8) → many ≡ rank s 65536 → many ≤ n → ((j : ℕ) → j < i → getD base j 0 ≡ rank s (j * 8)) → Ranked s base
+all-ranked s base i n many w e q h f = record { whole = w; first = λ k l m. f (k / 8) (passed k l m (decLt (k / 8) i)) }
+  where
+    passed : (k : ℕ) → k < 65536 → member s k ≡ true → Dec (k / 8 < i) → k / 8 < i
+    passed k l m (yes g) = g
+    passed k l m (no g) = absurd (omega (arith, rank-less s k 65536 m l, rank-ordered s (i * 8) k (omega arith)))
+
+-- what was written down for the byte of a member
+pub first-of-byte : (s base : List ℕ) (k w n : ℕ) → Ranked s base → member s k ≡ true → k < 65536 → w ≡ k → n ≡ getD base (w / 8) 0 → n ≡ rank s (w / 8 * 8)
+first-of-byte s base k w n r m h e q = q ∙ r .first w (omega arith) (rw e m)
 
 pub same-rank : (s : List ℕ) (k w n : ℕ) → w ≡ k → n ≡ rank s w → n ≡ rank s k
 same-rank s k w n e q = rw (← e) q

@@ -3,6 +3,7 @@ use keyset::BYTES;
 use keyset::has;
 use shared::wide;
 ghost use mathlib.Core.Path.{_≡_};
+ghost use mathlib.Core.Bool.{true};
 ghost use Prim.Native.Nat.{_+_, _*_, _≤_, _<_};
 ghost use lib.ListN.{length};
 ghost use Rattle.keyset.specs.Set.{member};
@@ -47,24 +48,24 @@ fn pass_byte(marks: &[u8; BYTES], i: usize, n: usize) -> usize
     climb(marks, i * 8, i * 8 + 8, n)
 }
 
-// Writes down the rank of each byte's first number, and answers how many members the set has.
-pub fn fill(marks: &[u8; BYTES], base: &mut [u16; BYTES]) -> usize
-    requires { ⌜ (length (now marks) ≡ 8192) × (length (now base) ≡ 8192) ⌝ }
-    ensures { λ r. ⌜ Ranked (now (marks .entry)) (now (base .exit)) × (r ≡ rank (now (marks .entry)) 65536) ⌝ }
+// Writes down, for each byte that holds a member, the rank of its first number. All `many` members are ranked when the last such byte is
+// passed, so what lies behind the greatest member costs nothing.
+pub fn fill(marks: &[u8; BYTES], many: usize, base: &mut [u16; BYTES])
+    requires { ⌜ (length (now marks) ≡ 8192) × (length (now base) ≡ 8192) × (many ≡ rank (now marks) 65536) ⌝ }
+    ensures { λ _. ⌜ Ranked (now (marks .entry)) (now (base .exit)) ⌝ }
 {
     let mut i: usize = 0;
     let mut n: usize = 0;
-    while i < BYTES {
+    while n < many {
         base[i] = n as u16;
         n = pass_byte(marks, i, n);
         i += 1;
     }
-    n
 }
 
-// The rank of a key: what is written down for its byte, and at most seven numbers more.
+// The rank of a member: what is written down for its byte, and at most seven numbers more.
 pub fn rank(marks: &[u8; BYTES], base: &[u16; BYTES], key: u16) -> usize
-    requires { ⌜ (length (now marks) ≡ 8192) × Ranked (now marks) (now base) ⌝ }
+    requires { ⌜ (length (now marks) ≡ 8192) × Ranked (now marks) (now base) × (member (now marks) key ≡ true) ⌝ }
     ensures { λ r. ⌜ r ≡ rank (now (marks .entry)) key ⌝ }
 {
     let k = wide(key);

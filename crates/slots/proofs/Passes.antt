@@ -1,27 +1,15 @@
--- The two loops: the keys before a place are in the set; the numbers before a place have their new names.
-use mathlib.Core.Path.{_≡_, refl, sym, ap, subst, _∙_}
-use mathlib.Core.List.{List, [], _∷_, _++_}
-use Prim.Native.Nat.{ℕ, zero, suc, _+_, _≤_, _<_}
+-- Renaming a column: the numbers before a place have their new names.
+use mathlib.Core.Path.{_≡_, refl, ap, _∙_}
+use mathlib.Core.Logic.{_≢_}
+use mathlib.Core.List.{List}
+use mathlib.Core.Bool.{true}
+use Prim.Native.Nat.{ℕ, _+_, _≤_, _<_}
 use native.Mathlib.Decide.{ℕ-discrete}
-use native.Mathlib.Numerals.{add-one}
 use native.Mathlib.Omega.{arith}
-use lib.ListN.{length, getD, set, take}
-use lib.Seq.{take-suc, take-all, getD-set-same, getD-set-other}
-use Rattle.ccsk.specs.Term.{done}
-use Rattle.causes.specs.Columns.{Positive}
-use Rattle.keys.specs.Gather.{Holds, Marked}
-use Rattle.slots.specs.Slot.{Renamed}
-
--- one key more is in the set
-pub gather-one : (m m′ ks : List ℕ) (i r : ℕ) → i < length ks → Positive ks → Marked m (getD ks i 0) m′ r → Holds m (take i ks) → Holds m′ (take (i + 1) ks)
-gather-one m m′ ks i r h P M H = subst (Holds m′) (sym (rw (add-one i) (take-suc ks i 0 h ∙ ap (λ (x : List ℕ). take i ks ++ x) (one (getD ks i 0) (P i h))))) (M .more (take i ks) H .0)
-  where
-    one : (k : ℕ) → 0 < k → k ∷ [] ≡ done k []
-    one zero h = absurd (omega arith)
-    one (suc k) h = refl
-
-pub gather-all : (m ks : List ℕ) (i : ℕ) → length ks ≤ i → Holds m (take i ks) → Holds m ks
-gather-all m ks i h H = subst (Holds m) (take-all i ks h) H
+use lib.ListN.{length, getD, set}
+use lib.Seq.{getD-set-same, getD-set-other}
+use Rattle.keyset.specs.Set.{member}
+use Rattle.slots.specs.Slot.{KeysIn, Renamed}
 
 -- the numbers before place j have their new names, the others are as they were
 abbrev pub Renaming : (ℕ → ℕ) → List ℕ → List ℕ → ℕ → Type 0
@@ -29,6 +17,10 @@ Renaming f c₀ c j = (k : ℕ) → k < length c₀ → ((k < j → getD c k 0 �
 
 pub rename-none : (f : ℕ → ℕ) (c : List ℕ) → Renaming f c c 0
 rename-none f c k h = (λ z. absurd (omega arith), λ z. refl)
+
+-- the number at place j, which is next
+pub next-in : (f : ℕ → ℕ) (c₀ c : List ℕ) (j : ℕ) (m : List ℕ) → j < length c₀ → Renaming f c₀ c j → KeysIn m c₀ → getD c j 0 ≢ 0 → member m (getD c j 0) ≡ true
+next-in f c₀ c j m h R K = rw (R j h .1 (omega arith)) (K j h)
 
 pub rename-one : (f : ℕ → ℕ) (c₀ c : List ℕ) (j v : ℕ) → length c ≡ length c₀ → j < length c → v ≡ f (getD c j 0) → Renaming f c₀ c j → Renaming f c₀ (set c j v) (j + 1)
 rename-one f c₀ c j v n h e R k l = pick (ℕ-discrete k j)

@@ -1,19 +1,21 @@
 -- Ranks give small and faithful names to the keys of a set.
-use mathlib.Core.Path.{_≡_, refl}
+use mathlib.Core.Path.{_≡_, refl, sym, _∙_}
 use mathlib.Core.Logic.{_⊎_, inl, inr}
 use mathlib.Core.List.{List, [], _∷_}
 use mathlib.Core.Bool.{true}
 use Prim.Native.Nat.{ℕ, zero, suc, _+_, _≤_, _<_}
 use native.Mathlib.Omega.{arith}
 use lib.ListN.{length, getD}
-use Rattle.ccsk.specs.Numbers.{In}
-use Rattle.ccsk.proofs.Lists.{getD-in, distinct-length}
+use Rattle.ccsk.specs.Numbers.{In, distinct}
+use Rattle.ccsk.proofs.Lists.{getD-in}
 use Rattle.causes.specs.Columns.{Faithful, Positive}
 use Rattle.keyset.specs.Set.{member}
+use Rattle.keyset.proofs.Counts.{Members}
 use Rattle.keys.specs.Gather.{Holds}
+use Rattle.keys.proofs.Marks.{holds-members}
 use Rattle.rank.specs.Rank.{rank}
-use Rattle.rank.proofs.Ranks.{rank-once, rank-less, rank-counts}
-use Rattle.slots.specs.Slot.{slot, Renamed, Numberable, Numbered}
+use Rattle.rank.proofs.Ranks.{rank-once, rank-less, rank-counts, rank-few}
+use Rattle.slots.specs.Slot.{slot, KeysIn, Renamed, Numberable, Numbered}
 
 -- what is in a column stands in one of its places
 pub in-place : (k : ℕ) (l : List ℕ) → In k l → (i : ℕ) × (i < length l) × (k ≡ getD l i 0)
@@ -41,9 +43,25 @@ module _ (m ks : List ℕ) (H : Holds m ks) (small : (i : ℕ) → getD ks i 0 <
   key-member : (k : ℕ) → In k ks → member m k ≡ true
   key-member k i = H .exact k (key-small k i) .1 i
 
-  -- no more ranks than keys
+  members : Members m 65536 ks
+  members = holds-members m ks H key-small
+
+  -- as many ranks as different keys
+  pub ranks-count : (n : ℕ) → n ≡ distinct ks → n ≡ rank m 65536
+  ranks-count n e = e ∙ sym (rank-counts m 65536 ks members)
+
   pub ranks-few : rank m 65536 ≤ length ks
-  ranks-few = omega (arith, rank-counts m 65536 ks (λ k. (λ i. (key-small k i, key-member k i), λ w. H .exact k (w .0) .0 (w .1))), distinct-length ks)
+  ranks-few = rank-few m 65536 ks members
+
+  pub keys-in : KeysIn m ks
+  keys-in i h z = key-member (getD ks i 0) (getD-in ks i h)
+
+  pub ups-in : (us : List ℕ) → Numberable ks us → KeysIn m us
+  ups-in us N i h z = pick (N .ups i h)
+    where
+      pick : (getD us i 0 ≡ 0) ⊎ In (getD us i 0) ks → member m (getD us i 0) ≡ true
+      pick (inl e) = absurd (z e)
+      pick (inr j) = key-member (getD us i 0) j
 
   slot-below : (k : ℕ) → In k ks → slot m k < rank m 65536 + 1
   unfolding slot

@@ -1,9 +1,9 @@
 -- What is known of each key at its rank, one key or one last further on.
 use mathlib.Core.Path.{_≡_, refl, sym, subst, _∙_}
-use mathlib.Core.Logic.{_⊎_, inl, inr, _↔_, _≢_}
+use mathlib.Core.Logic.{inl, inr, _≢_}
 use mathlib.Core.List.{List, [], _∷_, _++_, append-nil, append-assoc}
 use mathlib.Core.Bool.{Bool, true, false}
-use Prim.Native.Nat.{ℕ, zero, suc, _+_, _*_, _<_, _≤_}
+use Prim.Native.Nat.{ℕ, zero, suc, _+_, _<_, _≤_}
 use native.Mathlib.Decide.{ℕ-discrete, decLt}
 use native.Mathlib.Numerals.{add-one}
 use native.Mathlib.Omega.{arith}
@@ -13,20 +13,20 @@ use lib.ListN.{length, getD, set, take, length-append}
 use lib.Seq.{getD-set-same, getD-set-other, take-suc, length-take-le, getD-take}
 use Rattle.ccsk.specs.Numbers.{In}
 use Rattle.ccsk.specs.Term.{Key, Co}
-use Rattle.ccsk.proofs.Lists.{in-left, in-right, in-either, getD-in, distinct-length}
+use Rattle.ccsk.proofs.Lists.{getD-in}
 use Rattle.format.specs.Limits.{node-limit}
-use Rattle.keyset.specs.Set.{member, added}
-use Rattle.keyset.proofs.Sets.{added-same, added-other}
-use Rattle.keyset.proofs.Steps.{true-false}
+use Rattle.keyset.specs.Set.{member}
+use Rattle.keys.specs.Gather.{Holds}
+use Rattle.keys.proofs.Marks.{holds-members}
 use Rattle.rank.specs.Rank.{one-more, rank}
-use Rattle.rank.proofs.Ranks.{rank-once, rank-less, rank-counts}
+use Rattle.rank.proofs.Ranks.{rank-once, rank-less, rank-few}
 use Rattle.lasts.specs.Last.{Last, keep, only, Ready}
 use Rattle.lasts.proofs.Nodes.{only-append}
 use Rattle.lasts.proofs.Ready.{ready-count}
 use Rattle.shared.specs.Tells.{Tells}
 use Rattle.undos.specs.Gather.{rows}
 use Rattle.undos.proofs.Rows.{rows-at, rows-length}
-use Rattle.undos.specs.Group.{Fit, Empty, Small, Marks, times, bumped, capped, Counted, AllIn, Standing, Standing.once, Standing.twice, Standing.never, Standing.half, Standing.ready, Settled}
+use Rattle.undos.specs.Group.{Fit, Small, times, bumped, capped, Counted, AllIn, Standing, Standing.once, Standing.twice, Standing.never, Standing.half, Standing.ready, Settled}
 
 -- one more in front of a list
 pub take-more : {A : Type 0} (i : ℕ) (x : List A) (d : A) → i < length x → take (i + 1) x ≡ take i x ++ (getD x i d ∷ [])
@@ -34,33 +34,6 @@ take-more i x d h = rw (add-one i) (take-suc x i d h)
 
 pub in-front : (x : List ℕ) (i n : ℕ) → i < n → n ≤ length x → In (getD x i 0) (take n x)
 in-front x i n h l = rw (getD-take n x i 0 h) at (getD-in (take n x) i (omega (arith, length-take-le n x l)))
-
--- the keys that were put in
-pub marks-none : (x : List ℕ) (s : List ℕ) → Empty s → (k : Key) → k < 65536 → (member s k ≡ true) ↔ In k (take 0 x)
-marks-none x s e k h = (λ q. absurd (true-false (sym q ∙ e .none k h)), λ i. absurd i)
-
-pub marks-more : (x s : List ℕ) (i : ℕ) → length s ≡ 8192 → i < length x → getD x i 0 < 65536 → ((k : Key) → k < 65536 → (member s k ≡ true) ↔ In k (take i x))
-    → (k : Key) → k < 65536 → (member (added s (getD x i 0)) k ≡ true) ↔ In k (take (i + 1) x)
-marks-more x s i w h b f k l = rw (take-more i x 0 h) (pick (ℕ-discrete k m))
-  where
-    m : ℕ
-    m = getD x i 0
-
-    room : m < length s * 8
-    room = omega (arith, w)
-
-    pick : Dec (k ≡ m) → (member (added s m) k ≡ true) ↔ In k (take i x ++ (m ∷ []))
-    pick (yes q) = (λ e. in-right k (take i x) (m ∷ []) (inl q), λ j. rw q (added-same s m room))
-    pick (no q) = (λ e. in-left k (take i x) (m ∷ []) (f k l .0 (sym (added-other s m k room q) ∙ e)), λ j. added-other s m k room q ∙ f k l .1 (front (in-either k (take i x) (m ∷ []) j)))
-      where
-        front : In k (take i x) ⊎ In k (m ∷ []) → In k (take i x)
-        front (inl j) = j
-        front (inr (inl e)) = absurd (q e)
-        front (inr (inr e)) = absurd e
-
--- no more ranks than keys
-pub ranks-few : (x s : List ℕ) → Small x → Marks x s → rank s 65536 ≤ length x
-ranks-few x s f w = omega (arith, distinct-length x, rank-counts s 65536 x (λ k. (λ i. (f k i, w .marked k (f k i) .1 i), λ h. w .marked k (h .0) .0 (h .1))))
 
 pub rank-within : (s : List ℕ) (k n : ℕ) → rank s 65536 ≤ n → k < 65536 → member s k ≡ true → rank s k < n
 rank-within s k n h l e = omega (arith, rank-less s k 65536 e l)
@@ -109,8 +82,8 @@ pub counted-next : (s x : List ℕ) (i : ℕ) (st : List ℕ) (v r : ℕ) → i 
 counted-next s x i st v r h e b q l w f = rw (take-more i x 0 h) (counted-more s (take i x) st (getD x i 0) v r e b q l w f)
 
 -- a key of the list is a member
-pub noted-member : (x s : List ℕ) (i n : ℕ) → Small (take n x) → Marks (take n x) s → i < n → n ≤ length x → (getD x i 0 < 65536) × (member s (getD x i 0) ≡ true)
-noted-member x s i n f w h l = let j = in-front x i n h l in let b = f (getD x i 0) j in (b, w .marked (getD x i 0) b .1 j)
+pub noted-member : (x s : List ℕ) (i n : ℕ) → Small (take n x) → Holds s (take n x) → i < n → n ≤ length x → (getD x i 0 < 65536) × (member s (getD x i 0) ≡ true)
+noted-member x s i n f w h l = let j = in-front x i n h l in let b = f (getD x i 0) j in (b, w .exact (getD x i 0) b .1 j)
 
 -- one last more of a key
 module _ (rs : List Last) (k : ℕ) (e : Last) where
@@ -165,15 +138,12 @@ module _ (rs : List Last) (k : ℕ) (e : Last) where
   met-over (half h g) p q r i = absurd (r refl)
   met-over {c = c} {x = x} (ready w g) p q r i = never {c = c} {x = x ++ (e ∷ [])} (λ y v. omega (arith, ready-count c x w, ready-count c ((x ++ (e ∷ [])) ++ y) v, length-append (x ++ (e ∷ [])) y, length-append x (e ∷ [])))
 
-pub marks-set : (x s : List ℕ) (i n : ℕ) → i ≡ n → length s ≡ 8192 → ((k : Key) → k < 65536 → (member s k ≡ true) ↔ In k (take i x)) → Marks (take n x) s
-marks-set x s i n e w f = rw (← e) (record { whole = w; marked = f })
-
 pub ends-counted : (s x : List ℕ) (i n : ℕ) (st : List ℕ) → i ≡ n → Counted s (take i x) st → Counted s (take n x) st
 ends-counted s x i n st e f = rw (← e) f
 
 -- the rank of a key is an index
-pub rank-index : (x s : List ℕ) (n k r : ℕ) → n ≤ length x → n ≤ node-limit → Small (take n x) → Marks (take n x) s → k < 65536 → member s k ≡ true → r ≡ rank s k → r < node-limit
-rank-index x s n k r l h f w b e q = omega (arith, rank-within s k n (rw (length-take-le n x l) at (ranks-few (take n x) s f w)) b e)
+pub rank-index : (x s : List ℕ) (n k r : ℕ) → n ≤ length x → n ≤ node-limit → Small (take n x) → Holds s (take n x) → k < 65536 → member s k ≡ true → r ≡ rank s k → r < node-limit
+rank-index x s n k r l h f w b e q = omega (arith, rank-within s k n (rw (length-take-le n x l) at (rank-few s 65536 (take n x) (holds-members s (take n x) w f))) b e)
 
 -- the last in a key's slot, beside the last at row i
 module _ (ks as′ ss : List ℕ) (p : length ks ≡ node-limit) (q : length as′ ≡ node-limit) (r : length ss ≡ node-limit) (j w i : ℕ) (e : w ≡ j) where
@@ -215,9 +185,9 @@ times-some k (a ∷ x) (inr i) = pick (eqb k a) (times-some k x i)
     pick true h = omega arith
     pick false h = h
 
-pub settled-none : (s keys : List ℕ) (rs : List Last) (st sl : List ℕ) → Marks keys s → Counted s keys st → Settled s keys rs (take 0 rs) st sl
+pub settled-none : (s keys : List ℕ) (rs : List Last) (st sl : List ℕ) → Holds s keys → Counted s keys st → Settled s keys rs (take 0 rs) st sl
 unfolding only
-settled-none s keys rs st sl w f k l e = fresh rs k (times k keys) (getD st (rank s k) 0) (getD sl (rank s k) 0) (times-some k keys (w .marked k l .0 e)) (f k l e)
+settled-none s keys rs st sl w f k l e = fresh rs k (times k keys) (getD st (rank s k) 0) (getD sl (rank s k) 0) (times-some k keys (w .exact k l .0 e)) (f k l e)
 
 -- one last more
 only-more : (k : Key) (x : List Last) (e : Last) → only k (x ++ (e ∷ [])) ≡ only k x ++ keep (eqb k (e .key)) e []

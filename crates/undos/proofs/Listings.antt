@@ -9,20 +9,20 @@ use native.Mathlib.Numerals.{add-one}
 use native.Mathlib.Omega.{arith}
 use borrow.Author.Tests.{eq-eqb, ne-eqb}
 use lib.Dec.{eqb}
-use lib.ListN.{length, getD, set, take, drop, replicate, length-append, length-drop, length-replicate}
-use lib.Seq.{drop-cons, set-at, length-take-le}
+use lib.ListN.{length, getD, set, take, drop, replicate, length-append, length-take, length-drop}
+use lib.Seq.{drop-cons, set-at}
 use Rattle.format.specs.Limits.{node-limit}
-use Rattle.ccsk.specs.Numbers.{In, AscendingFrom, Lists}
+use Rattle.ccsk.specs.Numbers.{In, AscendingFrom, Lists, distinct}
 use Rattle.ccsk.specs.Term.{Key}
-use Rattle.ccsk.proofs.Lists.{in-left, in-right, in-either, getD-zeros}
+use Rattle.ccsk.proofs.Lists.{in-left, in-right, in-either, getD-zeros, distinct-length}
 use Rattle.keyset.specs.Set.{member}
-use Rattle.keyset.proofs.Sets.{empty-member}
+use Rattle.keys.specs.Gather.{Holds}
+use Rattle.keys.proofs.Marks.{holds-members}
 use Rattle.operations.specs.Ask.{Filled, Filled.short, Filled.filled}
 use Rattle.rank.specs.Rank.{rank}
-use Rattle.rank.proofs.Ranks.{rank-ordered, rank-less, rank-once, rank-reached}
+use Rattle.rank.proofs.Ranks.{rank-ordered, rank-less, rank-once, rank-reached, rank-counts}
 use Rattle.lasts.specs.Last.{Last, only, Ready}
-use Rattle.undos.specs.Group.{Empty, Small, Marks, AllAmong, times, Counted, AllIn, Standing, Standing.once, Standing.twice, Standing.never, Standing.half, Standing.ready, Settled, when, listed}
-use Rattle.undos.proofs.Groups.{ranks-few}
+use Rattle.undos.specs.Group.{Small, AllAmong, times, Counted, AllIn, Standing, Standing.once, Standing.twice, Standing.never, Standing.half, Standing.ready, Settled, when, listed}
 use Rattle.undos.specs.Rows.{Put, Lines, Lines.lines}
 
 listed-ready : (st sl : List ℕ) (r : ℕ) → getD st r 0 ≡ 5 → listed st sl (r + 1) ≡ listed st sl r ++ (getD sl r 0 ∷ [])
@@ -124,7 +124,7 @@ ascending-more : (n : ℕ) (x : List ℕ) (j : ℕ) → AscendingFrom n x → ((
 ascending-more n [] j o f h = (h, tt)
 ascending-more n (a ∷ x) j o f h = (o .0, ascending-more a x j (o .1) (λ k i. f k (inr i)) (f a (inl refl)))
 
-module _ (s keys : List ℕ) (rs ls : List Last) (st sl : List ℕ) (w : Marks keys s) (small : Small keys) (pos : (k : Key) → In k keys → 0 < k) (a : AllIn s ls) (f : Settled s keys rs ls st sl) where
+module _ (s keys : List ℕ) (rs ls : List Last) (st sl : List ℕ) (w : Holds s keys) (small : Small keys) (pos : (k : Key) → In k keys → 0 < k) (a : AllIn s ls) (f : Settled s keys rs ls st sl) where
   -- k is a ready key whose rank is below r
   Below : ℕ → ℕ → Type 0
   Below r k = (k < 65536) × (member s k ≡ true) × (rank s k < r) × (getD st (rank s k) 0 ≡ 5)
@@ -134,7 +134,7 @@ module _ (s keys : List ℕ) (rs ls : List Last) (st sl : List ℕ) (w : Marks k
     holds : (k : ℕ) → In k (listed st sl r) ↔ Below r k
 
   key-pos : (k : ℕ) → k < 65536 → member s k ≡ true → 0 < k
-  key-pos k l e = pos k (w .marked k l .0 e)
+  key-pos k l e = pos k (w .exact k l .0 e)
 
   module _ (r k : ℕ) (l : k < 65536) (e : member s k ≡ true) (q : rank s k ≡ r) where
     -- every key below in the list is smaller
@@ -204,28 +204,28 @@ module _ (s keys : List ℕ) (rs ls : List Last) (st sl : List ℕ) (w : Marks k
               m : (k < 65536) × (member s k ≡ true)
               m = last-member s ls k a (λ z. subst (Ready (times k keys)) z r)
 
--- arrays of zeros
-pub empty-set : (n : ℕ) → n ≡ 8192 → Empty (replicate n 0)
-empty-set n e = record { whole = length-replicate n 0 ∙ e; none = λ k h. empty-member n k (omega arith) }
-
+-- an array of zeros
 pub no-counts : (s : List ℕ) (n : ℕ) → Counted s [] (replicate n 0)
 unfolding times
 no-counts s n k l e = getD-zeros n (rank s k)
 
 -- the keys of the lasts are in the set
-pub among-in : (x s : List ℕ) (ls : List Last) → Small x → Marks x s → AllAmong x ls → AllIn s ls
+pub among-in : (x s : List ℕ) (ls : List Last) → Small x → Holds s x → AllAmong x ls → AllIn s ls
 among-in x s [] f w a = tt
-among-in x s (e ∷ ls) f w a = let b = f (e .key) (a .0) in ((b, w .marked (e .key) b .1 (a .0)), among-in x s ls f w (a .1))
+among-in x s (e ∷ ls) f w a = let b = f (e .key) (a .0) in ((b, w .exact (e .key) b .1 (a .0)), among-in x s ls f w (a .1))
 
--- the ranks fit the arrays
-pub few-ranks : (x s : List ℕ) (m n : ℕ) → m ≤ length x → m ≤ node-limit → Small (take m x) → Marks (take m x) s → n ≡ rank s 65536 → n ≤ node-limit
-few-ranks x s m n l h f w q = omega (arith, ranks-few (take m x) s f w, length-take-le m x l)
+-- as many ranks as different keys, and they fit the arrays
+pub ranks-count : (x s : List ℕ) (n : ℕ) → Small x → Holds s x → n ≡ distinct x → n ≡ rank s 65536
+ranks-count x s n f w e = e ∙ sym (rank-counts s 65536 x (holds-members s x w f))
+
+pub few-ranks : (x : List ℕ) (m n : ℕ) → m ≤ node-limit → n ≡ distinct (take m x) → n ≤ node-limit
+few-ranks x m n h e = omega (arith, distinct-length (take m x), length-take m x)
 
 -- the row that is too short, and the row that was written
-module _ (x s : List ℕ) (rs ls : List Last) (st sl : List ℕ) (w : Marks x s) (small : Small x) (pos : (k : Key) → In k x → 0 < k) (a : AllAmong x ls) (f : Settled s x rs ls st sl)
-    (n : ℕ) (q : n ≡ rank s 65536) (row : List ℕ) where
+module _ (x s : List ℕ) (rs ls : List Last) (st sl : List ℕ) (w : Holds s x) (small : Small x) (pos : (k : Key) → In k x → 0 < k) (a : AllAmong x ls) (f : Settled s x rs ls st sl)
+    (n : ℕ) (q : n ≡ distinct x) (row : List ℕ) where
   lists : Lists (λ k. Ready (times k x) (only k ls)) (listed st sl n)
-  lists = listed-lists s x rs ls st sl w small pos (among-in x s ls small w a) f n q
+  lists = listed-lists s x rs ls st sl w small pos (among-in x s ls small w a) f n (ranks-count x s n small w q)
 
   pub lines-short : (c : ℕ) → c ≡ length (listed st sl n) → length row < c → Lines x ls row 9 0 row
   lines-short c e h = let z : length row < length (listed st sl n) = omega arith in lines {l = listed st sl n} lists (Filled.short z)

@@ -1,22 +1,16 @@
 -- What is known of each key at its rank: how often it stands, and what its lasts are so far.
 use mathlib.Core.Path.{_≡_}
-use mathlib.Core.Logic.{_↔_}
 use mathlib.Core.List.{List, [], _∷_, _++_}
 use mathlib.Core.Bool.{Bool, true, false, cond}
 use Prim.Native.Nat.{ℕ, zero, suc, _+_, _<_}
 use lib.Dec.{eqb, ltb}
-use lib.ListN.{length, getD}
+use lib.ListN.{getD}
 use Rattle.ccsk.specs.Numbers.{In}
 use Rattle.ccsk.specs.Term.{Key, Co}
 use Rattle.format.specs.Limits.{node-limit}
 use Rattle.keyset.specs.Set.{member}
 use Rattle.rank.specs.Rank.{one-more, rank}
 use Rattle.lasts.specs.Last.{Last, only, Ready}
-
--- no key is in the set
-pub record Empty (s : List ℕ) : Type 0 where
-  pub whole : length s ≡ 8192
-  pub none : (k : Key) → k < 65536 → member s k ≡ false
 
 -- every key of the list has 16 bits
 abbrev pub Small : List Key → Type 0
@@ -30,11 +24,6 @@ Positive x = (k : Key) → In k x → 0 < k
 abbrev pub AllAmong : List Key → List Last → Type 0
 AllAmong x [] = Unit {0}
 AllAmong x (e ∷ l) = In (e .key) x × AllAmong x l
-
--- exactly the keys of the list are in the set
-pub record Marks (x : List Key) (s : List ℕ) : Type 0 where
-  pub whole : length s ≡ 8192
-  pub marked : (k : Key) → k < 65536 → (member s k ≡ true) ↔ In k x
 
 -- how often k stands in the list
 unfoldable pub times : Key → List Key → ℕ

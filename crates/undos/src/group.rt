@@ -1,6 +1,5 @@
 // The keys that were noted, settled one by one at their ranks: how often each stands, and whether its lasts are ready.
 use keyset::BYTES;
-use keyset::add;
 use rank::rank;
 use reader::NODES;
 use shared::complementary;
@@ -11,10 +10,11 @@ ghost use Prim.Native.Nat.{ℕ, _≤_, _<_};
 ghost use lib.ListN.{length, getD, take};
 ghost use Rattle.format.specs.Limits.{node-limit};
 ghost use Rattle.shared.specs.Tells.{Tells};
+ghost use Rattle.keys.specs.Gather.{Holds};
 ghost use Rattle.rank.specs.Rank.{Ranked};
 ghost use Rattle.lasts.specs.Last.{Last};
 ghost use Rattle.undos.specs.Gather.{rows};
-ghost use Rattle.undos.specs.Group.{Empty, Marks, Counted, Small, Standing, Settled, AllIn, Fit, bumped};
+ghost use Rattle.undos.specs.Group.{Counted, Small, Standing, Settled, AllIn, Fit, bumped};
 
 // What is known of a key: it stands once, or twice, with no last yet; it cannot be undone; it stands twice and its first last is at the
 // row in its slot; it can be undone, and stands in its slot.
@@ -32,18 +32,6 @@ pub const READY: u8 = 5;
 pub struct Met {
     pub state: u8,
     pub slot: u16,
-}
-
-// Puts the first n keys into the set, which is empty.
-pub fn mark_all(all: &[u16; NODES], n: usize, marks: &mut [u8; BYTES])
-    requires { ⌜ (length (now all) ≡ node-limit) × (n ≤ node-limit) × Empty (now marks) × Small (take n (now all)) ⌝ }
-    ensures { λ _. ⌜ Marks (take n (now (all .entry))) (now (marks .exit)) ⌝ }
-{
-    let mut i: usize = 0;
-    while i < n {
-        add(marks, all[i]);
-        i += 1;
-    }
 }
 
 // One more, up to three.
@@ -64,7 +52,7 @@ pub fn tally(
     base: &[u16; BYTES],
     state: &mut [u8; NODES],
 )
-    requires { ⌜ (length (now all) ≡ node-limit) × (n ≤ node-limit) × Small (take n (now all)) × Marks (take n (now all)) (now marks) × Ranked (now marks) (now base) ⌝ }
+    requires { ⌜ (length (now all) ≡ node-limit) × (n ≤ node-limit) × Small (take n (now all)) × Holds (now marks) (take n (now all)) × Ranked (now marks) (now base) ⌝ }
     requires { ⌜ (length (now state) ≡ node-limit) × Counted (now marks) [] (now state) ⌝ }
     ensures { λ _. ⌜ (length (now (state .exit)) ≡ node-limit) × Counted (now (marks .entry)) (take n (now (all .entry))) (now (state .exit)) ⌝ }
 {
@@ -149,7 +137,7 @@ pub fn settle(
     base: &[u16; BYTES],
     state: &mut [u8; NODES],
 )
-    requires { ⌜ (length (now all) ≡ node-limit) × (m ≤ node-limit) × Small (take m (now all)) × Marks (take m (now all)) (now marks) × Ranked (now marks) (now base) ⌝ }
+    requires { ⌜ (length (now all) ≡ node-limit) × (m ≤ node-limit) × Small (take m (now all)) × Holds (now marks) (take m (now all)) × Ranked (now marks) (now base) ⌝ }
     requires { ⌜ (length (now key) ≡ node-limit) × (length (now action) ≡ node-limit) × (length (now scope) ≡ node-limit) × (n ≤ node-limit) × AllIn (now marks) (take n (rows (now key) (now action) (now scope))) ⌝ }
     requires { ⌜ (length (now state) ≡ node-limit) × Counted (now marks) [] (now state) ⌝ }
     ensures { λ _. ⌜ (length (now (state .exit)) ≡ node-limit) × (length (now (all .exit)) ≡ node-limit) × Settled (now (marks .entry)) (take m (now (all .entry))) (rows (now (key .entry)) (now (action .entry)) (now (scope .entry))) (take n (rows (now (key .entry)) (now (action .entry)) (now (scope .entry)))) (now (state .exit)) (now (all .exit)) ⌝ }

@@ -2,8 +2,8 @@
 use crate::gather::Outcome;
 use crate::gather::gather;
 use crate::group::READY;
-use crate::group::mark_all;
 use crate::group::settle;
+use keys::mark_all;
 use keyset::BYTES;
 use rank::fill;
 use reader::DEPTH;
@@ -75,7 +75,8 @@ fn write_ready(state: &[u8; NODES], slot: &[u16; NODES], n: usize, row: &mut [u1
     }
 }
 
-// Lists the keys that can be undone, from the first m keys and the first n lasts that were noted.
+// Lists the keys that can be undone, from the first m keys and the first n lasts that were noted. Ranks are written down only as far as the
+// keys go.
 fn list(
     all: &mut [u16; NODES],
     m: usize,
@@ -90,9 +91,10 @@ fn list(
     ensures { λ r. ⌜ Lines (take m (now (all .entry))) (take n (rows (now (key .entry)) (now (action .entry)) (now (scope .entry)))) (now (row .entry)) (refusal r) (value r) (now (row .exit)) ⌝ }
 {
     let mut marks = [0u8; BYTES];
-    mark_all(all, m, &mut marks);
+    let noted = &all[..];
+    let total = mark_all(&noted[..m], &mut marks);
     let mut base = [0u16; BYTES];
-    let total = fill(&marks, &mut base);
+    fill(&marks, total, &mut base);
     let mut state = [0u8; NODES];
     settle(all, m, key, action, scope, n, &marks, &base, &mut state);
     let count = count_ready(&state, total);

@@ -11,7 +11,7 @@ add-requires : tie.Need-add-requires
 add-requires c κs = search needs
 
 returns-2 : tie.Need-returns-2
-returns-2 c = mark-added (c .before .before .before .args .marks .now) (c .before .before .before .args .key) (c .before .before .before .fits .key .fits) (c .before .before .if1 .left) _ (c .add .result) (c .add .ensures)
+returns-2 c = mark-added (c .before .before .before .args .marks .now) (c .before .before .before .args .key) (c .before .before .before .fits .key .fits) _ (c .add .result) (c .add .ensures) (c .before .before .if1 .left)
 
 pub mark-spec : {M : Type 1} → statement M
 mark-spec = tie.close (tie.spec returns add-requires returns-2)

@@ -21,7 +21,7 @@ wide-requires-2 : tie.Need-wide-requires-2
 wide-requires-2 c κs = search needs
 
 climb-requires : tie.Need-climb-requires
-climb-requires c κs = (c .before .before .before .pre .0, (omega arith, omega (arith, c .before .before .wide .ensures, c .before .before .before .fits .key .fits), first-of-byte (c .before .before .before .args .marks .now) (c .before .before .before .args .base .now) (c .before .before .before .args .key) (c .before .before .wide .result) (c .wide2 .result) (c .before .before .before .pre .1) (c .before .before .before .fits .key .fits) (c .before .before .wide .ensures) (c .wide2 .ensures)))
+climb-requires c κs = (c .before .before .before .pre .0, (omega arith, omega (arith, c .before .before .wide .ensures, c .before .before .before .fits .key .fits), first-of-byte (c .before .before .before .args .marks .now) (c .before .before .before .args .base .now) (c .before .before .before .args .key) (c .before .before .wide .result) (c .wide2 .result) (c .before .before .before .pre .1) (c .before .before .before .pre .2) (c .before .before .before .fits .key .fits) (c .before .before .wide .ensures) (c .wide2 .ensures)))
 
 returns : tie.Need-returns
 returns c = same-rank (c .before .before .before .before .args .marks .now) (c .before .before .before .before .args .key) (c .before .before .before .wide .result) _ (c .before .before .before .wide .ensures) (c .climb .ensures)

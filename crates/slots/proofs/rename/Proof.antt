@@ -5,7 +5,7 @@ use mathlib.Core.Path.{_≡_, refl}
 use Prim.Native.Nat.{_-_}
 use lib.ListN.{length, length-set}
 use Rattle.slots.specs.Slot.{slot}
-use Rattle.slots.proofs.Passes.{Renaming, rename-none, rename-one, rename-all}
+use Rattle.slots.proofs.Passes.{Renaming, rename-none, next-in, rename-one, rename-all}
 use Rattle.slots.proofs.rename.Statement.{statement}
 use Rattle.slots.proofs.rename.Tie as tie
 
@@ -25,7 +25,7 @@ slice-read-slot : tie.Need-slice-read-slot Inv-loop μ-loop
 slice-read-slot c = search needs
 
 slot-requires : tie.Need-slot-requires Inv-loop μ-loop
-slot-requires c κs = c .before .before .before .before .pre
+slot-requires c κs = (c .before .before .before .before .pre .0, next-in (slot (c .before .before .before .before .args .marks .now)) (c .before .before .before .before .args .column .now) (c .before .before .loop .column) (c .before .before .loop .i) (c .before .before .before .before .args .marks .now) (omega (arith, c .before .before .loop .inv .0)) (c .before .before .loop .inv .1) (c .before .before .before .before .pre .1))
 
 mul-column : tie.Need-mul-column Inv-loop μ-loop
 mul-column c = search needs

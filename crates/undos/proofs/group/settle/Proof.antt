@@ -30,7 +30,7 @@ element-copy-out-rank : tie.Need-element-copy-out-rank Inv-loop μ-loop
 element-copy-out-rank c = omega (arith, c .before .before .before .before .before .pre .1 .0)
 
 rank-requires : tie.Need-rank-requires Inv-loop μ-loop
-rank-requires c κs = (c .before .before .before .before .before .before .pre .0 .3 .whole, c .before .before .before .before .before .before .pre .0 .4)
+rank-requires c κs = (c .before .before .before .before .before .before .pre .0 .3 .whole, c .before .before .before .before .before .before .pre .0 .4, row-key (c .before .before .before .before .before .before .args .marks .now) (c .before .before .before .before .before .before .args .key .now) (c .before .before .before .before .before .before .args .action .now) (c .before .before .before .before .before .before .args .scope .now) (c .before .before .loop .i) (c .before .before .before .before .before .before .args .n) (c .before .before .before .before .before .before .pre .1 .0 .0) (c .before .before .before .before .before .before .pre .1 .0 .1) (c .before .before .before .before .before .before .pre .1 .0 .2) (omega arith) (c .before .before .before .before .before .before .pre .1 .0 .3) (c .before .before .before .before .before .before .pre .1 .0 .4) .1)
 
 element-copy-out-meet : tie.Need-element-copy-out-meet Inv-loop μ-loop
 element-copy-out-meet c = let k = row-key (c .before .before .before .before .before .before .before .args .marks .now) (c .before .before .before .before .before .before .before .args .key .now) (c .before .before .before .before .before .before .before .args .action .now) (c .before .before .before .before .before .before .before .args .scope .now) (c .before .before .before .loop .i) (c .before .before .before .before .before .before .before .args .n) (c .before .before .before .before .before .before .before .pre .1 .0 .0) (c .before .before .before .before .before .before .before .pre .1 .0 .1) (c .before .before .before .before .before .before .before .pre .1 .0 .2) (omega arith) (c .before .before .before .before .before .before .before .pre .1 .0 .3) (c .before .before .before .before .before .before .before .pre .1 .0 .4) in let x = rank-index (c .before .before .before .before .before .before .before .args .all .now) (c .before .before .before .before .before .before .before .args .marks .now) (c .before .before .before .before .before .before .before .args .m) (getD (c .before .before .before .before .before .before .before .args .key .now) (c .before .before .before .loop .i) 0) (c .rank .result) (omega (arith, c .before .before .before .before .before .before .before .pre .0)) (c .before .before .before .before .before .before .before .pre .0 .1) (c .before .before .before .before .before .before .before .pre .0 .2) (c .before .before .before .before .before .before .before .pre .0 .3) (k .0) (k .1) (c .rank .ensures) in omega (arith, c .before .before .before .loop .inv .1)

@@ -26,7 +26,7 @@ element-copy-out-rank : tie.Need-element-copy-out-rank Inv-loop μ-loop
 element-copy-out-rank c = search needs
 
 rank-requires : tie.Need-rank-requires Inv-loop μ-loop
-rank-requires c κs = (c .before .before .before .pre .0 .3 .whole, c .before .before .before .pre .0 .4)
+rank-requires c κs = (c .before .before .before .pre .0 .3 .whole, c .before .before .before .pre .0 .4, noted-member (c .before .before .before .args .all .now) (c .before .before .before .args .marks .now) (c .before .before .loop .i) (c .before .before .before .args .n) (c .before .before .before .pre .0 .2) (c .before .before .before .pre .0 .3) (omega arith) (omega arith) .1)
 
 element-copy-out-bump : tie.Need-element-copy-out-bump Inv-loop μ-loop
 element-copy-out-bump c = let m = noted-member (c .before .before .before .before .args .all .now) (c .before .before .before .before .args .marks .now) (c .before .before .before .loop .i) (c .before .before .before .before .args .n) (c .before .before .before .before .pre .0 .2) (c .before .before .before .before .pre .0 .3) (omega arith) (omega arith) in omega (arith, rank-index (c .before .before .before .before .args .all .now) (c .before .before .before .before .args .marks .now) (c .before .before .before .before .args .n) _ (c .rank .result) (omega arith) (c .before .before .before .before .pre .0 .1) (c .before .before .before .before .pre .0 .2) (c .before .before .before .before .pre .0 .3) (m .0) (m .1) (c .rank .ensures), c .before .before .before .loop .inv .1)
