@@ -88,7 +88,8 @@ extern "C" {
 /*
  * The 64-bit answer of all other operations:
  * refusal * 2^48 + mark * 2^40 + label * 2^32 + p * 2^16 + q.
- * An operation that answers a single number has it in the low 16 bits.
+ * An operation that answers a single number has it in the low 16 bits. It is proved for every entry and every input
+ * that what these macros take out of an answer is what the operation found: no field runs into another.
  */
 #define CONCOURSEL_REFUSAL(answer) ((uint8_t)((uint64_t)(answer) >> 48))
 #define CONCOURSEL_NUMBER(answer) ((uint16_t)(answer))
