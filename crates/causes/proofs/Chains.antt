@@ -8,23 +8,12 @@ use native.Mathlib.Omega.{arith}
 use lib.ListN.{length, length-append}
 use Rattle.ccsk.specs.Term.{Term, nil, pre, cho, par, res, Has, labels, size}
 use Rattle.ccsk.proofs.Basic.{never, labels-same, labels-other, labels-fresh}
+pub use Rattle.sound.proofs.Chains.{chain-map}
+use Rattle.sound.proofs.Chains.{chain-join, chain-bind}
 use Rattle.sound.proofs.Derive.{apart-two}
 use Rattle.sound.specs.Sound.{count, Twice, Apart, Split, Above, Before, Chain, one, more, Ordered}
 use Rattle.causes.specs.Entry.{Entry, Scopes, under, open-scopes, marked, entries, all}
 use Rattle.causes.specs.Tests.{Leads, Acyclic}
-
--- chains
-pub chain-map : {R S : ℕ → ℕ → Type 0} {m n : ℕ} → ((x y : ℕ) → R x y → S x y) → Chain R m n → Chain S m n
-chain-map f (one {m = x} {n = y} b) = one (f x y b)
-chain-map f (more {k = x} {n = y} c b) = more (chain-map f c) (f x y b)
-
-chain-join : {R : ℕ → ℕ → Type 0} {m k n : ℕ} → Chain R m k → Chain R k n → Chain R m n
-chain-join c (one b) = more c b
-chain-join c (more d b) = more (chain-join c d) b
-
-chain-bind : {R S : ℕ → ℕ → Type 0} {m n : ℕ} → ((x y : ℕ) → R x y → Chain S x y) → Chain R m n → Chain S m n
-chain-bind f (one {m = x} {n = y} b) = f x y b
-chain-bind f (more {k = x} {n = y} c b) = chain-join (chain-bind f c) (f x y b)
 
 leads-left : (x y : List Entry) (m n : ℕ) → Leads x m n → Leads (x ++ y) m n
 leads-left [] y m n i = absurd i

@@ -13,6 +13,7 @@ use Rattle.ccsk.proofs.Basic.{has?}
 use Rattle.ccsk.proofs.Decide.{std?}
 use Rattle.ccsk.proofs.ForwardDec.{forward?, do-zero, do-pre, do-cho, do-par, do-res, below?, unshift, zero?}
 use Rattle.ccsk.proofs.UndoDec.{undo?}
+use Rattle.sound.specs.Sound.{Before, Chain}
 use Rattle.format.specs.Read.{decode, read, node, kindOf, finish}
 use Rattle.format.specs.Encode.{encode}
 use Rattle.operations.specs.Order.{pair, ArePlaces, AtOrAfter, WaitsFor}
@@ -39,8 +40,11 @@ two-done = pre 1 1 (pre 2 2 nil)
 both-prefixes : ArePlaces two-done 0 1
 both-prefixes = (tt, tt, omega arith)
 
+one-above-two : Before two-done 1 2
+one-above-two = (omega arith, omega arith, (λ e. omega arith), inl (refl, inl refl))
+
 one-waits-for-two : WaitsFor two-done 1 2
-one-waits-for-two = ((λ e. omega arith), inl (refl, inl refl))
+one-waits-for-two = ((λ e. omega arith), Chain.one one-above-two)
 
 holds-two : HoldsAt 2 1 two-done
 holds-two = refl
@@ -78,7 +82,7 @@ taken-back = undo-computed refl
 there : ForwardRun apart shared
 there = ForwardRun.then {m = 1} ForwardRun.stay (omega arith) together
 
-back : UndoRun 1 shared apart
+back : UndoRun (1 ∷ []) shared apart
 back = UndoRun.then taken-back UndoRun.stay
 
 one-stands : KeyIn 1 shared

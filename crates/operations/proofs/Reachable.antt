@@ -1,23 +1,24 @@
 -- Demand 3 on bytes: sound is reachable from the blank form by allowed steps, and undoing leads back there in as many undos as there are keys.
 use mathlib.Core.Path.{_≡_, refl, ap, sym, _∙_}
 use mathlib.Core.Logic.{_⊎_, inl, inr, _↔_}
-use mathlib.Core.List.{List, [], _∷_}
+use mathlib.Core.List.{List, [], _∷_, _++_}
 use Prim.Native.Nat.{ℕ, suc, _<_, _≤_}
 use native.Mathlib.Omega.{arith}
-use lib.ListN.{length}
-use Rattle.ccsk.specs.Numbers.{distinct, Lists}
+use lib.ListN.{length, take, drop}
+use lib.Seq.{take-append-seam}
+use Rattle.ccsk.specs.Numbers.{In, distinct, Lists}
 use Rattle.ccsk.specs.Term.{Term, Label, Key, Node, Std, Has, keys, blank}
 use Rattle.ccsk.specs.Step.{Forward, Undo}
 use Rattle.ccsk.proofs.Loop.{undo-of-forward}
 use Rattle.ccsk.proofs.Undo.{key-pos, present}
 use Rattle.ccsk.proofs.Keys.{std-keys}
 use Rattle.ccsk.proofs.Place.{step-placed}
-use Rattle.sound.specs.Sound.{Sound, sound}
+use Rattle.sound.specs.Sound.{one, Sound, sound}
 use Rattle.sound.specs.Run.{Run, Undos}
 use Rattle.sound.proofs.Kept.{sound-undo, sound-redo}
-use Rattle.sound.proofs.Order.{last}
+use Rattle.sound.proofs.Order.{no-chain}
 use Rattle.sound.proofs.Derive.{UndoWith, Last}
-use Rattle.sound.proofs.Reach.{undo-last, undo-some, sound-iff-reachable, undos-end}
+use Rattle.sound.proofs.Reach.{undo-last, undo-some, sound-iff-reachable, undos-end, waits-go-first}
 use Rattle.format.specs.Read.{Reads}
 use Rattle.format.specs.Encode.{encode, Fits, Bytes}
 use Rattle.format.proofs.Round.{decode-encode}
@@ -99,13 +100,13 @@ forward-keeps-sound {s} h k a f = let i = sound-done a in let d = forward-done f
     Soundness.done (forward-readable d h k .1) (sound (sound-redo (undo-of-forward (d .step)) (rw (reads-one s (d .reads) (i .1)) (i .2))))
 
 -- undos on bytes are undos on terms
-record Back (n : ℕ) (t : Term) (b : List ℕ) : Type 0 where
+record Back (ks : List Key) (t : Term) (b : List ℕ) : Type 0 where
   end : Term
   reads : Reads b end
   bytes : encode end ≡ b
-  run : Undos n t end
+  run : Undos ks t end
 
-undos-on-terms : {n : ℕ} {s b : List ℕ} (t : Term) → UndoRun n s b → Bytes s → Reads s t → Back n t b
+undos-on-terms : {ks : List Key} {s b : List ℕ} (t : Term) → UndoRun ks s b → Bytes s → Reads s t → Back ks t b
 undos-on-terms t (UndoRun.stay {s = s}) h e = record { end = t; reads = e; bytes = encode-read s h e; run = Undos.stay }
 undos-on-terms t (UndoRun.then {s = s} {m = m} {l = l} a r) h e =
     let d = undo-done a in let i = undo-readable d h in let w : Undo t m l (d .later) = rw (reads-one s e (d .reads)) (d .step) in
@@ -113,11 +114,11 @@ undos-on-terms t (UndoRun.then {s = s} {m = m} {l = l} a r) h e =
     record { end = j .end; reads = j .reads; bytes = j .bytes; run = Undos.then w (j .run) }
 
 -- undos carried on from a sound record until none is allowed: as many as there are keys, and they end at the blank form's bytes
-pub undo-run-ends : {n : ℕ} {s b : List ℕ} → Bytes s → Soundness s 0 0 → UndoRun n s b → NoUndo b → KeyCount s 0 n × BlankForm s 0 n b
-undo-run-ends {n} {s} {b} h a r f =
+pub undo-run-ends : {ks : List Key} {s b : List ℕ} → Bytes s → Soundness s 0 0 → UndoRun ks s b → NoUndo b → KeyCount s 0 (length ks) × BlankForm s 0 (length ks) b
+undo-run-ends {ks} {s} {b} h a r f =
     let i = sound-done a in let j = undos-on-terms (i .0) r h (i .1) in
     let z = undos-end (j .run) (i .2) (λ m l v d. f m l (encode v) (UndoStep.done (j .reads) d)) in
-    (count-makes n (i .1) (sym (z .0)), blank-makes n b (i .1) (sym (z .0)) (ap encode (sym (z .1)) ∙ j .bytes))
+    (count-makes (length ks) (i .1) (sym (z .0)), blank-makes (length ks) b (i .1) (sym (z .0)) (ap encode (sym (z .1)) ∙ j .bytes))
 
 -- an empty row takes an empty list only
 filled-none : {x row row′ : List ℕ} {r n : ℕ} → Filled x row r n row′ → r ≡ 0 → n ≡ 0 → length x ≡ 0
@@ -130,7 +131,7 @@ none-listed P (a ∷ x) l e n h i = omega arith
 
 waiting-none : {s : List ℕ} {m : Key} → WaitingList s m [] 0 0 [] → (t : Term) × Reads s t × (0 < m) × Has m t × Last m t
 waiting-none {s} (WaitingList.unreadable e) = not-refused-zero s e
-waiting-none {m = m} (WaitingList.done {t = t} {l = x} e h i l f) = (t, e, h, i, λ n p g a. none-listed (WaitsFor t m) x l (filled-none f refl refl) n p (g, a))
+waiting-none {m = m} (WaitingList.done {t = t} {l = x} e h i l f) = (t, e, h, i, λ n p g a. none-listed (WaitsFor t m) x l (filled-none f refl refl) n p (g, one (h, p, (λ q. g (sym q)), a)))
 
 undo-makes-one : {s : List ℕ} {t : Term} {m : Key} → Reads s t → (l : Label) × UndoWith t m l → (l : Label) × (b : List ℕ) × UndoStep s m 0 l b
 undo-makes-one e r = (r .0, encode (r .1 .0), UndoStep.done e (r .1 .1))
@@ -141,8 +142,22 @@ undo-iff-waits-for-none {s} {m} a = (there, back)
   where
     there : (l : Label) × (b : List ℕ) × UndoStep s m 0 l b → WaitingList s m [] 0 0 []
     there u = let d = undo-done (u .2) in
-        WaitingList.done {l = []} (d .reads) (key-pos (d .step)) (present (d .step)) (tt, λ n. ((λ i. absurd i), λ h. last n (d .step) (h .0) (h .1 .1))) (filled (omega arith))
+        WaitingList.done {l = []} (d .reads) (key-pos (d .step)) (present (d .step)) (tt, λ n. ((λ i. absurd i), λ h. no-chain (d .step) (h .1 .1))) (filled (omega arith))
 
     back : WaitingList s m [] 0 0 [] → (l : Label) × (b : List ℕ) × UndoStep s m 0 l b
     back w = let j = waiting-none w in let i = sound-done a in
         undo-makes-one (j .1) (undo-last (j .0) m (rw (reads-one s (j .1) (i .1)) (i .2)) (j .2) (j .3) (j .4))
+
+-- the front of a row that took a list is the list
+filled-front : {x row row′ : List ℕ} {r n : ℕ} → Filled x row r n row′ → r ≡ 0 → take n row′ ≡ x
+filled-front (short h) e = absurd (omega arith)
+filled-front {x} {row} (filled h) e = take-append-seam x (drop (length x) row)
+
+waiting-front : {s row row′ : List ℕ} {m : Key} {x : ℕ} → WaitingList s m row 0 x row′ → (t : Term) × Reads s t × Lists (WaitsFor t m) (take x row′)
+waiting-front {s} (WaitingList.unreadable e) = not-refused-zero s e
+waiting-front {m = m} (WaitingList.done {t = t} e h i l f) = (t, e, rw (filled-front f refl) l)
+
+-- What the waiting list is for: a run of allowed undos that takes back m takes back every key of its list before it takes back m.
+-- It holds in every readable record, sound ones included.
+pub list-goes-first : {s c row row′ : List ℕ} {m : Key} {x : ℕ} (ks js : List Key) → Bytes s → WaitingList s m row 0 x row′ → UndoRun (ks ++ (m ∷ js)) s c → (n : Key) → In n (take x row′) → In n ks
+list-goes-first ks js h w r n i = let j = waiting-front w in waits-go-first ks js (undos-on-terms (j .0) r h (j .1) .run) (j .2 .1 n .0 i .1 .1)

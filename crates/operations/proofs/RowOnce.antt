@@ -14,8 +14,8 @@ use Rattle.ccsk.proofs.Decide.{isnt}
 use Rattle.ccsk.proofs.Keys.{has-in}
 use Rattle.ccsk.proofs.Undo.{present}
 use Rattle.ccsk.proofs.UndoDec.{undo?}
-use Rattle.sound.proofs.Order.{above-low}
-use Rattle.sound.proofs.Top.{above?}
+use Rattle.sound.proofs.Order.{chain-low}
+use Rattle.sound.proofs.Top.{chained?}
 use Rattle.format.specs.Read.{Reads, decode, Opened, Opened.refused, opened}
 use Rattle.operations.specs.Order.{WaitsFor}
 use Rattle.operations.specs.Ask.{Filled, short, filled, UndoListing, WaitingList}
@@ -69,14 +69,14 @@ listing-once d e = same (listing-only d) (listing-only e)
 
 -- the keys that m waits for
 unfoldable pub waits? : (t : Term) (m n : Key) → Dec (WaitsFor t m n)
-waits? t m n = both (isnt (ℕ-discrete n m)) (above? m n t)
+waits? t m n = both (isnt (ℕ-discrete n m)) (chained? t m n)
 
 unfoldable pub awaited : Term → Key → List Key
 awaited t m = pass (WaitsFor t m) (waits? t m) (keys t)
 
 pub awaited-listed : (t : Term) (m : Key) → Lists (WaitsFor t m) (awaited t m)
 unfolding awaited
-awaited-listed t m = lists-some (WaitsFor t m) (waits? t m) (keys t) (λ k h w. has-in k t h (above-low m k t (w .1)))
+awaited-listed t m = lists-some (WaitsFor t m) (waits? t m) (keys t) (λ k h w. has-in k t h (chain-low t (w .1) .1))
 
 unfoldable pub waiting-of : Key → List ℕ → Term → Answer
 waiting-of m row t = choose (ℕ-discrete m 0) (3, 0, row) (choose (has? m t) (fill (awaited t m) row) (7, 0, row))

@@ -12,8 +12,9 @@ use Rattle.ccsk.specs.Decide.{channel?, co?, on?}
 use Rattle.ccsk.proofs.Decide.{std?}
 use Rattle.ccsk.proofs.ForwardDec.{forward?, do-zero, do-pre, do-cho, do-par, do-res, below?, unshift, zero?}
 use Rattle.ccsk.proofs.UndoDec.{undo?}
+use Rattle.sound.proofs.Chains.{chain?, through?}
 use Rattle.sound.proofs.Peel.{acyclic?, peel, look, find, empty}
-use Rattle.sound.proofs.Top.{above?, before?, ordered?}
+use Rattle.sound.proofs.Top.{above?, before?, ordered?, chained?}
 use Rattle.sound.proofs.Decide.{verdict, waits?, chosen?, twice?, paired?, split?, hidden?, apart?, two?, keys?, each?}
 use Rattle.format.specs.Read.{decode, read, node, kindOf, finish}
 use Rattle.format.specs.Encode.{encode}
@@ -98,6 +99,12 @@ sides-of-names = (
   read-computed refl,
 )
 
+abbrev chained : List ℕ
+chained = beside (act 1 1 (one 2 2)) (act 130 2 (one 3 3))
+
+abbrev circle : List ℕ
+circle = beside (act 1 1 (one 130 2)) (act 2 2 (one 129 1))
+
 pub sides-of-keys-and-places :
     -- key 65,535 is taken, 0 is refused 3, and 3 comes before 4
     ForwardStep (one 1 0) 0 0 65535 0 1 (1 ∷ (1 ∷ (255 ∷ (255 ∷ stop))))
@@ -122,10 +129,19 @@ pub sides-of-keys-and-places :
     × WaitingList (act 1 1 (one 2 2)) 1 [] 9 0 []
     × WaitingList (act 1 1 (one 2 2)) 2 [] 0 0 []
     × WaitingList (act 1 1 (one 2 2)) 3 [] 7 0 []
+    -- in a[1].b[2].0 | b'[2].c[3].0 a chain leads from 1 through 2 to 3 (02, [5])
+    × WaitingList chained 1 (7 ∷ (8 ∷ (9 ∷ []))) 0 2 (2 ∷ (3 ∷ (9 ∷ [])))
+    × WaitingList chained 1 (7 ∷ []) 9 0 (7 ∷ [])
+    × WaitingList chained 2 (7 ∷ (8 ∷ [])) 0 1 (3 ∷ (8 ∷ []))
+    × WaitingList chained 3 [] 0 0 []
+    -- in a[1].b'[2].0 | b[2].a'[1].0 a chain leads from each key back to it, and no key is on its own list
+    × Soundness circle 0 7
+    × WaitingList circle 1 (7 ∷ (8 ∷ [])) 0 1 (2 ∷ (8 ∷ []))
+    × WaitingList circle 2 (7 ∷ (8 ∷ [])) 0 1 (1 ∷ (8 ∷ []))
     -- undo listing of a[2].0 | b[1].0: 1, 2
     × UndoListing (beside (one 1 2) (one 2 1)) (7 ∷ (8 ∷ (9 ∷ []))) 0 2 (1 ∷ (2 ∷ (9 ∷ [])))
     × UndoListing (beside (one 1 2) (one 2 1)) (7 ∷ []) 9 0 (7 ∷ [])
-unfolding decode read node kindOf finish encode count-answer distinct in? forward-answer forward-of undo-answer undo-of sound-answer places? prefix? forward? do-zero do-pre do-cho do-par do-res below? unshift zero? size shift places undo? has? std? co? on? channel? verdict waits? chosen? twice? paired? split? hidden? apart? two? keys? each? ordered? acyclic? peel look find empty above? before? labels keys without decLe ℕ-discrete decLt pass fill undoables listing-answer awaited waiting-of waiting-answer Row.waits?
+unfolding decode read node kindOf finish encode count-answer distinct in? forward-answer forward-of undo-answer undo-of sound-answer places? prefix? forward? do-zero do-pre do-cho do-par do-res below? unshift zero? size shift places undo? has? std? co? on? channel? verdict waits? chosen? twice? paired? split? hidden? apart? two? keys? each? ordered? acyclic? peel look find empty above? before? labels keys without decLe ℕ-discrete decLt pass fill undoables listing-answer awaited waiting-of waiting-answer Row.waits? chained? chain? through?
 sides-of-keys-and-places = (
   forward-computed refl,
   forward-computed refl,
@@ -143,6 +159,13 @@ sides-of-keys-and-places = (
   count-computed refl,
   waiting-computed refl,
   waiting-computed refl,
+  waiting-computed refl,
+  waiting-computed refl,
+  waiting-computed refl,
+  waiting-computed refl,
+  waiting-computed refl,
+  waiting-computed refl,
+  sound-computed refl,
   waiting-computed refl,
   waiting-computed refl,
   listing-computed refl,

@@ -47,7 +47,7 @@ pub data UndoListing (s row : List ℕ) : ℕ → ℕ → List ℕ → Type 0 wh
   unreadable : {c : ℕ} → Refuses s c → UndoListing s row c 0 row
   done : {t : Term} {l row′ : List ℕ} {r n : ℕ} → Reads s t → Lists (Undoable t) l → Filled l row r n row′ → UndoListing s row r n row′
 
--- Waiting list of the key m, ascending; refusal, count, row (01, Operations).
+-- Waiting list of the key m, ascending; refusal, count, row (01, Operations; 02, [5]).
 pub data WaitingList (s : List ℕ) (m : Key) (row : List ℕ) : ℕ → ℕ → List ℕ → Type 0 where
   unreadable : {c : ℕ} → Refuses s c → WaitingList s m row c 0 row
   key-zero : {t : Term} → Reads s t → m ≡ 0 → WaitingList s m row 3 0 row

@@ -6,7 +6,7 @@ use Prim.Native.Nat.{zero, suc, _<_, _≤_}
 use Rattle.ccsk.specs.Numbers.{LeastFree}
 use Rattle.ccsk.specs.Term.{Term, Label, Key, Node, keys}
 use Rattle.ccsk.specs.Place.{ForwardAt, IsPrefix}
-use Rattle.sound.specs.Sound.{Above}
+use Rattle.sound.specs.Sound.{Before, Chain}
 
 -- q = 0 means the one place p; otherwise both p and q step together (01, Operations: forward step).
 abbrev pub pair : Node → Node → List Node
@@ -36,6 +36,7 @@ pub record FirstFrom (t : Term) (p q p′ q′ : Node) (l : Label) : Type 0 wher
   pub after : AtOrAfter p q p′ q′
   pub least : (p″ q″ : Node) (l″ : Label) → AtOrAfter p q p″ q″ → FreeStep t p″ q″ l″ → AtOrAfter p′ q′ p″ q″
 
--- The key m waits for n: n is another key, below a prefix that holds m (01, Operations: waiting list).
+-- The key m waits for n: n is another key, and a chain leads from m to it, each link from a key to one below a prefix that holds it
+-- (02, [5]; the order of 004, Definition 3.3, closed over chains).
 abbrev pub WaitsFor : Term → Key → Key → Type 0
-WaitsFor t m n = (n ≢ m) × Above m n t
+WaitsFor t m n = (n ≢ m) × Chain (Before t) m n

@@ -1,7 +1,7 @@
 -- Runs of allowed steps on a record's bytes, the keys that stand in a record, and where.
 use mathlib.Core.Path.{_≡_}
 use mathlib.Core.Bool.{cond}
-use mathlib.Core.List.{List}
+use mathlib.Core.List.{List, [], _∷_}
 use Prim.Native.Nat.{ℕ, zero, suc, _-_, _≤_, _<_}
 use lib.Dec.{ltb}
 use Rattle.ccsk.specs.Term.{Term, Label, Key, Node, nil, pre, cho, par, res, Has, size}
@@ -13,10 +13,10 @@ pub data ForwardRun : List ℕ → List ℕ → Type 0 where
   stay : {s : List ℕ} → ForwardRun s s
   then : {s b c : List ℕ} {p q : Node} {m : Key} {l : Label} → ForwardRun s b → m ≤ 65535 → ForwardStep b p q m 0 l c → ForwardRun s c
 
--- n allowed undos, one after the other, from the bytes s to the bytes b
-pub data UndoRun : ℕ → List ℕ → List ℕ → Type 0 where
-  stay : {s : List ℕ} → UndoRun 0 s s
-  then : {n : ℕ} {s b c : List ℕ} {m : Key} {l : Label} → UndoStep s m 0 l b → UndoRun n b c → UndoRun (suc n) s c
+-- allowed undos of the keys ks, one after the other, from the bytes s to the bytes b
+pub data UndoRun : List Key → List ℕ → List ℕ → Type 0 where
+  stay : {s : List ℕ} → UndoRun [] s s
+  then : {ks : List Key} {s b c : List ℕ} {m : Key} {l : Label} → UndoStep s m 0 l b → UndoRun ks b c → UndoRun (m ∷ ks) s c
 
 -- no undo is allowed
 abbrev pub NoUndo : List ℕ → Type 0

@@ -1,6 +1,7 @@
 -- The conditions of soundness and the runs on small terms (01, Examples on both sides): each example computes.
 use mathlib.Core.Path.{_≡_, refl}
 use mathlib.Core.Logic.{inl, inr, ⊎-elim}
+use mathlib.Core.List.{[], _∷_}
 use native.Mathlib.Omega.{arith}
 use Rattle.ccsk.specs.Term.{Term, nil, pre, cho, par, res, labels}
 use Rattle.ccsk.specs.Step.{Forward}
@@ -84,5 +85,5 @@ together = Forward.synch {l = 1} {k = 129} (inl ((omega arith, omega arith), ref
 there : Run apart shared
 there = Run.then Run.stay together
 
-back : Undos 1 shared apart
+back : Undos (1 ∷ []) shared apart
 back = Undos.then (undo-of-forward together) Undos.stay

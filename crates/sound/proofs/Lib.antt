@@ -1,4 +1,5 @@
 -- The theorems on soundness, each file leaning only on those above it.
+pub mod Chains
 pub mod Peel
 pub mod Conditions
 pub mod Order

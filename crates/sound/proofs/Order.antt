@@ -1,4 +1,5 @@
 -- Condition 7 through a step: an undo takes edges away, a forward step adds edges that only end in its key.
+use mathlib.Core.Path.{refl}
 use mathlib.Core.Logic.{inl, inr, _≢_, _↔_}
 use Prim.Native.Nat.{ℕ, _<_}
 use Rattle.ccsk.specs.Term.{Term, nil, pre, cho, par, res, Has}
@@ -6,6 +7,7 @@ use Rattle.ccsk.specs.Step.{Undo, Undo.top, Undo.prefix, Undo.choice₁, Undo.c
 use Rattle.sound.specs.Sound.{Above, Before, Chain, one, more, Ordered}
 use Rattle.ccsk.proofs.Basic.{never, std-has, has?}
 use Rattle.ccsk.proofs.Undo.{absent, has-kept}
+use Rattle.sound.proofs.Chains.{first, final}
 
 pub has-undo : {t u : Term} {m l : ℕ} (n : ℕ) → Undo t m l u → 0 < n → Has n u → Has n t
 has-undo {t} n d p i = pick (has? n t)
@@ -40,6 +42,10 @@ above-high x y (cho t u) (inr i) = inr (above-high x y u i)
 above-high x y (par t u) (inl i) = inl (above-high x y t i)
 above-high x y (par t u) (inr i) = inr (above-high x y u i)
 above-high x y (res a t) i = above-high x y t i
+
+-- a chain ends in a key of the term
+pub chain-low : (t : Term) {m n : ℕ} → Chain (Before t) m n → (0 < n) × Has n t
+chain-low t {n = n} c = let b = final c in (b .1 .1, above-low (b .0) n t (b .1 .3))
 
 above-undo : {t u : Term} {m l : ℕ} (x y : ℕ) → Undo t m l u → 0 < x → 0 < y → Above x y u → Above x y t
 above-undo x y (top h s) p q (inl i) = never p (i .0)
@@ -101,11 +107,12 @@ chain-undo d (more {k = x} {n = y} c b) = more (chain-undo d c) (b .0, b .1, b .
 source : {t u : Term} {m l x y : ℕ} → Undo t m l u → Before t x y → x ≢ m
 source {t} {m = m} {x = x} {y = y} d b e = last y d (b .1) (rw e at (b .3))
 
-first : {R : ℕ → ℕ → Type 0} {x z : ℕ} → Chain R x z → (y : ℕ) × R x y
-first (one {n = y} b) = (y, b)
-first (more c b) = first c
+-- no chain leads from the key that an undo takes
+pub no-chain : {t u : Term} {m l n : ℕ} → Undo t m l u → ¬ Chain (Before t) m n
+no-chain d c = source d (first c .1) refl
 
-chain-redo : {t u : Term} {m l x z : ℕ} → Undo t m l u → z ≢ m → Chain (Before t) x z → Chain (Before u) x z
+-- an undo keeps every chain that does not end in its key
+pub chain-redo : {t u : Term} {m l x z : ℕ} → Undo t m l u → z ≢ m → Chain (Before t) x z → Chain (Before u) x z
 chain-redo d e (one {m = x} {n = y} b) = one (b .0, b .1, b .2, above-redo x y d (b .1) e (b .3))
 chain-redo d e (more {k = x} {n = y} c b) = more (chain-redo d (source d b) c) (b .0, b .1, b .2, above-redo x y d (b .1) e (b .3))
 

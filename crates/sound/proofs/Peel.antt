@@ -11,6 +11,7 @@ use Rattle.ccsk.specs.Numbers.{In}
 use Rattle.ccsk.specs.Without.{without}
 use Rattle.sound.specs.Sound.{Chain, one, more}
 use Rattle.ccsk.proofs.Lists.{in-without, gone, without-shorter}
+use Rattle.sound.proofs.Chains.{first}
 
 -- a number of L to which R leads from m, and the rest of L; or none
 pub data Next (R : ℕ → ℕ → Type 0) (m : ℕ) (L : List ℕ) : Type 0 where
@@ -97,10 +98,6 @@ module _ (R : ℕ → ℕ → Type 0) (R? : (m n : ℕ) → Dec (R m n)) where
   rowed-free (x ∷ O) w m (inl e) c = w .0 (after x O (w .2) (w .1) (rw e at c))
   rowed-free (x ∷ O) w m (inr i) c = rowed-free O (w .2) m i c
 
-  pub first-in : {x z : ℕ} → Chain R x z → (y : ℕ) × R x y
-  first-in (one {n = y} b) = (y, b)
-  first-in (more c b) = first-in c
-
   -- one of S that leads to none of T, if there is one
   unfoldable pub look : (T S : List ℕ) → ((m : ℕ) × In m S × ((n : ℕ) → In n T → ¬ R m n)) ⊎ ((m : ℕ) → In m S → ¬ ((n : ℕ) → In n T → ¬ R m n))
   look T [] = inr (λ m i f. i)
@@ -118,7 +115,7 @@ module _ (R : ℕ → ℕ → Type 0) (R? : (m n : ℕ) → Dec (R m n)) where
   -- taking out, one by one, numbers that lead to none that is left; K holds whatever R relates
   module _ (K : List ℕ) (low : (m n : ℕ) → R m n → In n K) (high : (m n : ℕ) → R m n → In m K) where
     unfoldable pub empty : (O : List ℕ) → Rowed O → ((k : ℕ) → In k K → In k [] ⊎ In k O) → Dec (Acyclic R)
-    empty O w s = yes (λ m c. rowed-free O w m (⊎-elim (λ z. absurd z) (λ z. z) (s m (high m (first-in c .0) (first-in c .1)))) c)
+    empty O w s = yes (λ m c. rowed-free O w m (⊎-elim (λ z. absurd z) (λ z. z) (s m (high m (first c .0) (first c .1)))) c)
 
     unfoldable pub peel : (f : ℕ) (S O : List ℕ) → length S ≤ f → Rowed O → ((k : ℕ) → In k K → In k S ⊎ In k O) → ((k : ℕ) → In k S → ¬ In k O) → Dec (Acyclic R)
     unfolding Rowed

@@ -1,14 +1,15 @@
 -- Proposition 3.5 of 004: a term is sound exactly if forward steps lead to it from its blank form; and how long undo runs are.
 use mathlib.Core.Path.{_≡_, refl, sym, ap, _∙_}
-use mathlib.Core.Logic.{_⊎_, inl, inr, _↔_}
-use mathlib.Core.List.{List, [], _∷_}
+use mathlib.Core.Logic.{_⊎_, inl, inr, _≢_, _↔_}
+use mathlib.Core.List.{List, [], _∷_, _++_}
 use Prim.Native.Nat.{ℕ, zero, suc, _<_}
+use native.Mathlib.Decide.{ℕ-discrete}
 use native.Mathlib.Omega.{arith}
 use lib.ListN.{length}
-use Rattle.ccsk.specs.Numbers.{distinct}
+use Rattle.ccsk.specs.Numbers.{In, distinct}
 use Rattle.ccsk.specs.Term.{Term, Std, Has, labels, blank, keys}
 use Rattle.ccsk.specs.Step.{Forward, Undo}
-use Rattle.sound.specs.Sound.{Sound}
+use Rattle.sound.specs.Sound.{Before, Chain, Sound}
 use Rattle.sound.specs.Run.{Run, Undos}
 use Rattle.ccsk.proofs.Basic.{labels-fresh, std-or-key, std-blank}
 use Rattle.ccsk.proofs.Undo.{blank-kept}
@@ -17,7 +18,7 @@ use Rattle.ccsk.proofs.Keys.{std-keys, distinct-undo}
 use Rattle.sound.proofs.Kept.{sound-undo, sound-redo, std-sound, reach-sound}
 use Rattle.sound.proofs.Derive.{UndoWith, Last, undo-one, undo-two}
 use Rattle.sound.proofs.Top.{top-key}
-use Rattle.sound.proofs.Order.{last}
+use Rattle.sound.proofs.Order.{last, no-chain, chain-redo}
 
 -- in a sound term a key with no other below it can be undone
 pub undo-last : (t : Term) (m : ℕ) → Sound t → 0 < m → Has m t → Last m t → (l : ℕ) × UndoWith t m l
@@ -38,7 +39,7 @@ undo-some t s = pick (std-or-key t)
     pick (inr i) = let p = top-key t (i .0) (s .ordered) (i .1) (i .2) in
         let d = undo-last t (p .0) s (p .1) (p .2) (λ n q e a. p .3 n (p .1, q, (λ z. e (sym z)), a)) in inr (p .0, d .0, d .1)
 
--- the undo of a key is possible exactly if its waiting list is empty
+-- the undo of a key is possible exactly if no other stands below it
 pub undo-iff-last : (t : Term) (m : ℕ) → Sound t → 0 < m → Has m t → ((l : ℕ) × UndoWith t m l) ↔ Last m t
 undo-iff-last t m s h i = (λ d n p e. last n (d .1 .1) p, undo-last t m s h i)
 
@@ -63,7 +64,7 @@ pub sound-iff-reachable : (t : Term) → Sound t ↔ Run (blank t) t
 sound-iff-reachable t = (sound-run (distinct (keys t)) t refl, reach-sound)
 
 -- any undos from a sound term that end where none is possible: as many as there are keys, and the end is the blank form
-pub undos-end : {n : ℕ} {t u : Term} → Undos n t u → Sound t → ((m l : ℕ) (v : Term) → ¬ Undo u m l v) → (n ≡ distinct (keys t)) × (u ≡ blank t)
+pub undos-end : {ks : List ℕ} {t u : Term} → Undos ks t u → Sound t → ((m l : ℕ) (v : Term) → ¬ Undo u m l v) → (length ks ≡ distinct (keys t)) × (u ≡ blank t)
 unfolding distinct
 undos-end (Undos.stay {t = t}) s f = pick (undo-some t s)
   where
@@ -71,6 +72,16 @@ undos-end (Undos.stay {t = t}) s f = pick (undo-some t s)
     pick (inl x) = (rw (std-keys t x), sym (std-blank t x))
     pick (inr d) = absurd (f (d .0) (d .1) (d .2 .0) (d .2 .1))
 undos-end (Undos.then d r) s f = let i = undos-end r (sound-undo d s) f in (rw (distinct-undo d) (ap suc (i .0)), i .1 ∙ sym (blank-kept d))
+
+-- What the waiting list is for: a run of undos takes back every key that a chain leads to from m, before it takes back m.
+-- It asks for no soundness.
+pub waits-go-first : {t u : Term} {m n : ℕ} (ks js : List ℕ) → Undos (ks ++ (m ∷ js)) t u → Chain (Before t) m n → In n ks
+waits-go-first [] js (Undos.then d r) c = absurd (no-chain d c)
+waits-go-first {n = n} (k ∷ ks) js (Undos.then d r) c = pick (ℕ-discrete n k) (λ e. waits-go-first ks js r (chain-redo d e c))
+  where
+    pick : Dec (n ≡ k) → (n ≢ k → In n ks) → In n (k ∷ ks)
+    pick (yes e) f = inl e
+    pick (no e) f = inr (f e)
 
 -- Definition 2.2: steps forward and back, in any order, from a standard term
 pub data Steps : Term → Term → Type 0 where

@@ -1,12 +1,13 @@
 -- In a term without a cycle some key has no other key below it.
 use Prim.Native.Nat.{ℕ, _<_}
 use native.Mathlib.Decide.{ℕ-discrete, decLt}
-use Rattle.ccsk.specs.Numbers.{either}
+use Rattle.ccsk.specs.Numbers.{In, either}
 use Rattle.ccsk.specs.Term.{Term, nil, pre, cho, par, res, Has, keys}
-use Rattle.sound.specs.Sound.{Above, Before, Ordered}
+use Rattle.sound.specs.Sound.{Above, Before, Chain, Ordered}
 use Rattle.ccsk.proofs.Basic.{has?}
 use Rattle.ccsk.specs.Decide.{both}
 use Rattle.ccsk.proofs.Keys.{has-in, in-has}
+use Rattle.sound.proofs.Chains.{chain?}
 use Rattle.sound.proofs.Peel.{peak, acyclic?}
 use Rattle.sound.proofs.Order.{above-low, above-high}
 
@@ -27,13 +28,21 @@ pick (yes a) (yes b) (no c) (yes d) = yes (a, b, c, d)
 unfoldable pub before? : (t : Term) (m n : ℕ) → Dec (Before t m n)
 before? t m n = pick (decLt 0 m) (decLt 0 n) (ℕ-discrete m n) (above? m n t)
 
+-- the lower end of an edge is a key of the term
+pub before-low : (t : Term) (m n : ℕ) → Before t m n → In n (keys t)
+before-low t m n b = has-in n t (b .1) (above-low m n t (b .3))
+
+-- a chain of edges can be decided
+unfoldable pub chained? : (t : Term) (m n : ℕ) → Dec (Chain (Before t) m n)
+chained? t = chain? (Before t) (before? t) (keys t) (before-low t)
+
 -- a key with none below it
 pub top-key : (t : Term) (m : ℕ) → Ordered t → 0 < m → Has m t → (k : ℕ) × (0 < k) × Has k t × ((n : ℕ) → ¬ Before t k n)
 top-key t m o p h =
     let r = peak (Before t) (before? t) (keys t) o m (has-in m t p h) in
     let i = in-has (r .key) t (r .has) in
-    (r .key, i .0, i .1, λ n b. r .free n (has-in n t (b .1) (above-low (r .key) n t (b .3))) b)
+    (r .key, i .0, i .1, λ n b. r .free n (before-low t (r .key) n b) b)
 
 -- condition 7 can be decided
 unfoldable pub ordered? : (t : Term) → Dec (Ordered t)
-ordered? t = acyclic? (Before t) (before? t) (keys t) (λ m n b. has-in n t (b .1) (above-low m n t (b .3))) (λ m n b. has-in m t (b .0) (above-high m n t (b .3)))
+ordered? t = acyclic? (Before t) (before? t) (keys t) (before-low t) (λ m n b. has-in m t (b .0) (above-high m n t (b .3)))
