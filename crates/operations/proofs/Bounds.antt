@@ -12,7 +12,6 @@ use Rattle.ccsk.proofs.Loop.{forward-of-undo}
 use Rattle.ccsk.proofs.Undo.{present}
 use Rattle.ccsk.proofs.Keys.{has-in, keys-few}
 use Rattle.sound.specs.Sound.{Verdict, sound, fails₁, fails₂, fails₃, fails₄, fails₅, fails₆, fails₇}
-use Rattle.sound.proofs.Order.{chain-low}
 use Rattle.format.specs.Limits.{node-limit}
 use Rattle.format.specs.Read.{Refuses}
 use Rattle.format.specs.Encode.{InRange, Fits, Bytes}
@@ -21,6 +20,7 @@ use Rattle.operations.specs.Change.{ForwardStep, UndoStep, BlankForm}
 use Rattle.operations.specs.Ask.{ReadRecord, KeyCount, FreeKey, FirstStep, Filled, short, filled, UndoListing, WaitingList, Soundness}
 use Rattle.operations.proofs.Lists.{ascending-few, least-free-once}
 use Rattle.operations.proofs.FirstOnce.{place-bound}
+use Rattle.operations.proofs.RowOnce.{waits-key}
 use Rattle.operations.proofs.Readable.{read-fits}
 use Rattle.operations.proofs.Kept.{fits-undo}
 
@@ -117,7 +117,7 @@ module _ (s : List ℕ) (B : Bytes s) where
   waiting-small (WaitingList.unreadable e) = (refused-small s e, omega arith)
   waiting-small (WaitingList.key-zero e z) = omega arith
   waiting-small (WaitingList.key-absent e h k) = omega arith
-  waiting-small (WaitingList.done {t} {l} e h i o f) = filled-small (listed-few _ t l (read-fits s B e) o (λ k h w. has-in k t h (chain-low t (w .1) .1))) f
+  waiting-small {m} (WaitingList.done {t} {l} e h i o f) = filled-small (listed-few _ t l (read-fits s B e) o (waits-key t m)) f
 
   pub first-small : {p q c n p′ q′ l : ℕ} → FirstStep s p q c n p′ q′ l → SmallFirst c n p′ q′ l
   first-small (FirstStep.unreadable e) = let h = refused-small s e in omega arith

@@ -13,7 +13,7 @@ use Rattle.ccsk.proofs.Basic.{has?}
 use Rattle.ccsk.proofs.Decide.{std?}
 use Rattle.ccsk.proofs.ForwardDec.{forward?, do-zero, do-pre, do-cho, do-par, do-res, below?, unshift, zero?}
 use Rattle.ccsk.proofs.UndoDec.{undo?}
-use Rattle.sound.specs.Sound.{Before, Chain}
+use Rattle.sound.specs.Sound.{Before}
 use Rattle.format.specs.Read.{decode, read, node, kindOf, finish}
 use Rattle.format.specs.Encode.{encode}
 use Rattle.operations.specs.Order.{pair, ArePlaces, AtOrAfter, WaitsFor}
@@ -23,6 +23,7 @@ use Rattle.operations.specs.Runs.{ForwardRun, UndoRun, KeyIn, HoldsAt}
 use Rattle.operations.proofs.Choose.{Fit}
 use Rattle.operations.proofs.Places.{places?, prefix?}
 use Rattle.operations.proofs.ChangeOnce.{forward-answer, forward-of, undo-answer, undo-of, blank-answer, blank-some}
+use Rattle.operations.proofs.RowOnce.{link-waits}
 use Rattle.operations.proofs.Marked.{forward-computed, undo-computed, beside, one}
 
 -- one place, and two
@@ -44,7 +45,7 @@ one-above-two : Before two-done 1 2
 one-above-two = (omega arith, omega arith, (λ e. omega arith), inl (refl, inl refl))
 
 one-waits-for-two : WaitsFor two-done 1 2
-one-waits-for-two = ((λ e. omega arith), Chain.one one-above-two)
+one-waits-for-two = link-waits two-done 1 2 one-above-two
 
 holds-two : HoldsAt 2 1 two-done
 holds-two = refl

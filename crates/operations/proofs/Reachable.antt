@@ -13,7 +13,7 @@ use Rattle.ccsk.proofs.Loop.{undo-of-forward}
 use Rattle.ccsk.proofs.Undo.{key-pos, present}
 use Rattle.ccsk.proofs.Keys.{std-keys}
 use Rattle.ccsk.proofs.Place.{step-placed}
-use Rattle.sound.specs.Sound.{one, Sound, sound}
+use Rattle.sound.specs.Sound.{Sound, sound}
 use Rattle.sound.specs.Run.{Run, Undos}
 use Rattle.sound.proofs.Kept.{sound-undo, sound-redo}
 use Rattle.sound.proofs.Order.{no-chain}
@@ -26,6 +26,7 @@ use Rattle.operations.specs.Order.{WaitsFor}
 use Rattle.operations.specs.Change.{ForwardStep, UndoStep, BlankForm}
 use Rattle.operations.specs.Ask.{KeyCount, Filled, short, filled, WaitingList, Soundness}
 use Rattle.operations.specs.Runs.{ForwardRun, UndoRun, NoUndo}
+use Rattle.operations.proofs.RowOnce.{link-waits}
 use Rattle.operations.proofs.Readable.{not-refused-zero, reads-one, encode-read, read-fits}
 use Rattle.operations.proofs.Kept.{fits-blank, fits-undo, fits-forward, range-key}
 use Rattle.operations.proofs.Reversible.{forward-done, forward-readable, forward-makes, as-pair, undo-done, undo-readable, blank-done, blank-makes}
@@ -131,7 +132,7 @@ none-listed P (a ∷ x) l e n h i = omega arith
 
 waiting-none : {s : List ℕ} {m : Key} → WaitingList s m [] 0 0 [] → (t : Term) × Reads s t × (0 < m) × Has m t × Last m t
 waiting-none {s} (WaitingList.unreadable e) = not-refused-zero s e
-waiting-none {m = m} (WaitingList.done {t = t} {l = x} e h i l f) = (t, e, h, i, λ n p g a. none-listed (WaitsFor t m) x l (filled-none f refl refl) n p (g, one (h, p, (λ q. g (sym q)), a)))
+waiting-none {m = m} (WaitingList.done {t = t} {l = x} e h i l f) = (t, e, h, i, λ n p g a. none-listed (WaitsFor t m) x l (filled-none f refl refl) n p (link-waits t m n (h, p, (λ q. g (sym q)), a)))
 
 undo-makes-one : {s : List ℕ} {t : Term} {m : Key} → Reads s t → (l : Label) × UndoWith t m l → (l : Label) × (b : List ℕ) × UndoStep s m 0 l b
 undo-makes-one e r = (r .0, encode (r .1 .0), UndoStep.done e (r .1 .1))

@@ -1,11 +1,11 @@
 -- Undo listing and waiting list: for every input exactly one answer fits the promise, and it can be computed.
-use mathlib.Core.Path.{_≡_, refl}
+use mathlib.Core.Path.{_≡_, refl, sym}
 use mathlib.Core.List.{List, _++_}
-use Prim.Native.Nat.{ℕ, _≤_}
+use Prim.Native.Nat.{ℕ, _<_, _≤_}
 use native.Mathlib.Decide.{ℕ-discrete, decLe}
 use native.Mathlib.Omega.{arith}
 use lib.ListN.{length, drop}
-use Rattle.ccsk.specs.Numbers.{Lists}
+use Rattle.ccsk.specs.Numbers.{In, Lists}
 use Rattle.ccsk.specs.Term.{Term, Key, Has, keys}
 use Rattle.ccsk.specs.Step.{Undoable}
 use Rattle.ccsk.proofs.Basic.{has?, never}
@@ -14,7 +14,8 @@ use Rattle.ccsk.proofs.Decide.{isnt}
 use Rattle.ccsk.proofs.Keys.{has-in}
 use Rattle.ccsk.proofs.Undo.{present}
 use Rattle.ccsk.proofs.UndoDec.{undo?}
-use Rattle.sound.proofs.Order.{chain-low}
+use Rattle.sound.specs.Sound.{Before, one}
+use Rattle.sound.proofs.Order.{chain-ends}
 use Rattle.sound.proofs.Top.{chained?}
 use Rattle.format.specs.Read.{Reads, decode, Opened, Opened.refused, opened}
 use Rattle.operations.specs.Order.{WaitsFor}
@@ -71,12 +72,20 @@ listing-once d e = same (listing-only d) (listing-only e)
 unfoldable pub waits? : (t : Term) (m n : Key) → Dec (WaitsFor t m n)
 waits? t m n = both (isnt (ℕ-discrete n m)) (chained? t m n)
 
+-- one link: m waits for every other key below a prefix that holds it
+pub link-waits : (t : Term) (m n : Key) → Before t m n → WaitsFor t m n
+link-waits t m n b = ((λ e. b .2 (sym e)), one b)
+
+-- they are keys of the term
+pub waits-key : (t : Term) (m k : Key) → 0 < k → WaitsFor t m k → In k (keys t)
+waits-key t m k h w = has-in k t h (chain-ends t (w .1) .1 .1)
+
 unfoldable pub awaited : Term → Key → List Key
 awaited t m = pass (WaitsFor t m) (waits? t m) (keys t)
 
 pub awaited-listed : (t : Term) (m : Key) → Lists (WaitsFor t m) (awaited t m)
 unfolding awaited
-awaited-listed t m = lists-some (WaitsFor t m) (waits? t m) (keys t) (λ k h w. has-in k t h (chain-low t (w .1) .1))
+awaited-listed t m = lists-some (WaitsFor t m) (waits? t m) (keys t) (waits-key t m)
 
 unfoldable pub waiting-of : Key → List ℕ → Term → Answer
 waiting-of m row t = choose (ℕ-discrete m 0) (3, 0, row) (choose (has? m t) (fill (awaited t m) row) (7, 0, row))

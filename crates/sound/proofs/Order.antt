@@ -43,9 +43,9 @@ above-high x y (par t u) (inl i) = inl (above-high x y t i)
 above-high x y (par t u) (inr i) = inr (above-high x y u i)
 above-high x y (res a t) i = above-high x y t i
 
--- a chain ends in a key of the term
-pub chain-low : (t : Term) {m n : ℕ} → Chain (Before t) m n → (0 < n) × Has n t
-chain-low t {n = n} c = let b = final c in (b .1 .1, above-low (b .0) n t (b .1 .3))
+-- a chain leads from a key of the term to a key of the term
+pub chain-ends : (t : Term) {m n : ℕ} → Chain (Before t) m n → ((0 < m) × Has m t) × ((0 < n) × Has n t)
+chain-ends t {m} {n} c = let a = first c in let b = final c in ((a .1 .0, above-high m (a .0) t (a .1 .3)), (b .1 .1, above-low (b .0) n t (b .1 .3)))
 
 above-undo : {t u : Term} {m l : ℕ} (x y : ℕ) → Undo t m l u → 0 < x → 0 < y → Above x y u → Above x y t
 above-undo x y (top h s) p q (inl i) = never p (i .0)
