@@ -1,4 +1,5 @@
 -- Demand 3 on bytes: sound is reachable from the blank form by allowed steps, and undoing leads back there in as many undos as there are keys.
+-- Undos take back the keys that a key waits for first (02, [5]).
 use mathlib.Core.Path.{_≡_, refl, ap, sym, _∙_}
 use mathlib.Core.Logic.{_⊎_, inl, inr, _↔_}
 use mathlib.Core.List.{List, [], _∷_, _++_}
@@ -121,18 +122,15 @@ undo-run-ends {ks} {s} {b} h a r f =
     let z = undos-end (j .run) (i .2) (λ m l v d. f m l (encode v) (UndoStep.done (j .reads) d)) in
     (count-makes (length ks) (i .1) (sym (z .0)), blank-makes (length ks) b (i .1) (sym (z .0)) (ap encode (sym (z .1)) ∙ j .bytes))
 
--- an empty row takes an empty list only
-filled-none : {x row row′ : List ℕ} {r n : ℕ} → Filled x row r n row′ → r ≡ 0 → n ≡ 0 → length x ≡ 0
-filled-none (short h) e f = absurd (omega arith)
-filled-none (filled h) e f = f
+-- the front of a row that took a list is the list
+filled-front : {x row row′ : List ℕ} {r n : ℕ} → Filled x row r n row′ → r ≡ 0 → take n row′ ≡ x
+filled-front (short h) e = absurd (omega arith)
+filled-front {x} {row} (filled h) e = take-append-seam x (drop (length x) row)
 
-none-listed : (P : ℕ → Type 0) (x : List ℕ) → Lists P x → length x ≡ 0 → (n : ℕ) → 0 < n → ¬ P n
-none-listed P [] l e n h i = l .1 n .1 (h, i)
-none-listed P (a ∷ x) l e n h i = omega arith
-
-waiting-none : {s : List ℕ} {m : Key} → WaitingList s m [] 0 0 [] → (t : Term) × Reads s t × (0 < m) × Has m t × Last m t
-waiting-none {s} (WaitingList.unreadable e) = not-refused-zero s e
-waiting-none {m = m} (WaitingList.done {t = t} {l = x} e h i l f) = (t, e, h, i, λ n p g a. none-listed (WaitsFor t m) x l (filled-none f refl refl) n p (link-waits t m n (h, p, (λ q. g (sym q)), a)))
+-- what a waiting list comes from
+waiting-done : {s row row′ : List ℕ} {m : Key} {x : ℕ} → WaitingList s m row 0 x row′ → (t : Term) × Reads s t × (0 < m) × Has m t × Lists (WaitsFor t m) (take x row′)
+waiting-done {s} (WaitingList.unreadable e) = not-refused-zero s e
+waiting-done (WaitingList.done {t = t} e h i l f) = (t, e, h, i, rw (filled-front f refl) l)
 
 undo-makes-one : {s : List ℕ} {t : Term} {m : Key} → Reads s t → (l : Label) × UndoWith t m l → (l : Label) × (b : List ℕ) × UndoStep s m 0 l b
 undo-makes-one e r = (r .0, encode (r .1 .0), UndoStep.done e (r .1 .1))
@@ -146,19 +144,11 @@ undo-iff-waits-for-none {s} {m} a = (there, back)
         WaitingList.done {l = []} (d .reads) (key-pos (d .step)) (present (d .step)) (tt, λ n. ((λ i. absurd i), λ h. no-chain (d .step) (h .1 .1))) (filled (omega arith))
 
     back : WaitingList s m [] 0 0 [] → (l : Label) × (b : List ℕ) × UndoStep s m 0 l b
-    back w = let j = waiting-none w in let i = sound-done a in
-        undo-makes-one (j .1) (undo-last (j .0) m (rw (reads-one s (j .1) (i .1)) (i .2)) (j .2) (j .3) (j .4))
-
--- the front of a row that took a list is the list
-filled-front : {x row row′ : List ℕ} {r n : ℕ} → Filled x row r n row′ → r ≡ 0 → take n row′ ≡ x
-filled-front (short h) e = absurd (omega arith)
-filled-front {x} {row} (filled h) e = take-append-seam x (drop (length x) row)
-
-waiting-front : {s row row′ : List ℕ} {m : Key} {x : ℕ} → WaitingList s m row 0 x row′ → (t : Term) × Reads s t × Lists (WaitsFor t m) (take x row′)
-waiting-front {s} (WaitingList.unreadable e) = not-refused-zero s e
-waiting-front {m = m} (WaitingList.done {t = t} e h i l f) = (t, e, rw (filled-front f refl) l)
+    back w = let j = waiting-done w in let i = sound-done a in
+        let none : Last m (j .0) = λ n p g a. j .4 .1 n .1 (p, link-waits (j .0) m n (j .2, p, (λ q. g (sym q)), a)) in
+        undo-makes-one (j .1) (undo-last (j .0) m (rw (reads-one s (j .1) (i .1)) (i .2)) (j .2) (j .3) none)
 
 -- What the waiting list is for: a run of allowed undos that takes back m takes back every key of its list before it takes back m.
 -- It holds in every readable record, sound ones included.
 pub list-goes-first : {s c row row′ : List ℕ} {m : Key} {x : ℕ} (ks js : List Key) → Bytes s → WaitingList s m row 0 x row′ → UndoRun (ks ++ (m ∷ js)) s c → (n : Key) → In n (take x row′) → In n ks
-list-goes-first ks js h w r n i = let j = waiting-front w in waits-go-first ks js (undos-on-terms (j .0) r h (j .1) .run) (j .2 .1 n .0 i .1 .1)
+list-goes-first ks js h w r n i = let j = waiting-done w in waits-go-first ks js (undos-on-terms (j .0) r h (j .1) .run) (j .4 .1 n .0 i .1 .1)

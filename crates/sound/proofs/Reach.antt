@@ -1,4 +1,4 @@
--- Proposition 3.5 of 004: a term is sound exactly if forward steps lead to it from its blank form; and how long undo runs are.
+-- Proposition 3.5 of 004: a term is sound exactly if forward steps lead to it from its blank form; how long undo runs are, and what they take back first.
 use mathlib.Core.Path.{_≡_, refl, sym, ap, _∙_}
 use mathlib.Core.Logic.{_⊎_, inl, inr, _≢_, _↔_}
 use mathlib.Core.List.{List, [], _∷_, _++_}
