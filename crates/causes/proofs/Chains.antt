@@ -11,7 +11,7 @@ use Rattle.ccsk.proofs.Basic.{never, labels-same, labels-other, labels-fresh}
 pub use Rattle.sound.proofs.Chains.{chain-map}
 use Rattle.sound.proofs.Chains.{chain-join, chain-bind}
 use Rattle.sound.proofs.Derive.{apart-two}
-use Rattle.sound.specs.Sound.{count, Twice, Apart, Split, Above, Before, Chain, one, more, Ordered}
+use Rattle.sound.specs.Sound.{count, Twice, Apart, Split, Above, Before, Chain, one, Ordered}
 use Rattle.causes.specs.Entry.{Entry, Scopes, under, open-scopes, marked, entries, all}
 use Rattle.causes.specs.Tests.{Leads, Acyclic}
 
