@@ -68,7 +68,7 @@ listing-some s row = read (decode s) refl
 pub listing-once : {s row row′ row″ : List ℕ} {r r′ n n′ : ℕ} → UndoListing s row r n row′ → UndoListing s row r′ n′ row″ → Same (r, n, row′) (r′, n′, row″)
 listing-once d e = same (listing-only d) (listing-only e)
 
--- the keys that m waits for
+-- whether m waits for n, with the reason
 unfoldable pub waits? : (t : Term) (m n : Key) → Dec (WaitsFor t m n)
 waits? t m n = both (isnt (ℕ-discrete n m)) (chained? t m n)
 
@@ -76,10 +76,11 @@ waits? t m n = both (isnt (ℕ-discrete n m)) (chained? t m n)
 pub link-waits : (t : Term) (m n : Key) → Before t m n → WaitsFor t m n
 link-waits t m n b = ((λ e. b .2 (sym e)), one b)
 
--- they are keys of the term
+-- what m waits for is a key of the term
 pub waits-key : (t : Term) (m k : Key) → 0 < k → WaitsFor t m k → In k (keys t)
 waits-key t m k h w = has-in k t h (chain-ends t (w .1) .1 .1)
 
+-- the keys that m waits for
 unfoldable pub awaited : Term → Key → List Key
 awaited t m = pass (WaitsFor t m) (waits? t m) (keys t)
 

@@ -99,9 +99,11 @@ sides-of-names = (
   read-computed refl,
 )
 
+-- a[1].b[2].0 | b'[2].c[3].0
 abbrev chained : List ℕ
 chained = beside (act 1 1 (one 2 2)) (act 130 2 (one 3 3))
 
+-- a[1].b'[2].0 | b[2].a'[1].0
 abbrev circle : List ℕ
 circle = beside (act 1 1 (one 130 2)) (act 2 2 (one 129 1))
 
@@ -129,12 +131,12 @@ pub sides-of-keys-and-places :
     × WaitingList (act 1 1 (one 2 2)) 1 [] 9 0 []
     × WaitingList (act 1 1 (one 2 2)) 2 [] 0 0 []
     × WaitingList (act 1 1 (one 2 2)) 3 [] 7 0 []
-    -- in a[1].b[2].0 | b'[2].c[3].0 a chain leads from 1 through 2 to 3 (02, [5])
+    -- a chain leads from 1 through 2 to 3 (02, [5])
     × WaitingList chained 1 (7 ∷ (8 ∷ (9 ∷ []))) 0 2 (2 ∷ (3 ∷ (9 ∷ [])))
     × WaitingList chained 1 (7 ∷ []) 9 0 (7 ∷ [])
     × WaitingList chained 2 (7 ∷ (8 ∷ [])) 0 1 (3 ∷ (8 ∷ []))
     × WaitingList chained 3 [] 0 0 []
-    -- in a[1].b'[2].0 | b[2].a'[1].0 a chain leads from each key back to it, and no key is on its own list
+    -- a chain leads from each key back to it, and no key is on its own list
     × Soundness circle 0 7
     × WaitingList circle 1 (7 ∷ (8 ∷ [])) 0 1 (2 ∷ (8 ∷ []))
     × WaitingList circle 2 (7 ∷ (8 ∷ [])) 0 1 (1 ∷ (8 ∷ []))

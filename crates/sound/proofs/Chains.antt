@@ -21,6 +21,7 @@ pub chain-map : {R S : ℕ → ℕ → Type 0} {m n : ℕ} → ((x y : ℕ) → 
 chain-map f (one {m = x} {n = y} b) = one (f x y b)
 chain-map f (more {k = x} {n = y} c b) = more (chain-map f c) (f x y b)
 
+-- a chain behind a chain is a chain
 pub chain-join : {R : ℕ → ℕ → Type 0} {m k n : ℕ} → Chain R m k → Chain R k n → Chain R m n
 chain-join c (one b) = more c b
 chain-join c (more d b) = more (chain-join c d) b
@@ -36,10 +37,12 @@ module _ (R : ℕ → ℕ → Type 0) (R? : (m n : ℕ) → Dec (R m n)) where
   Through [] m n = R m n
   Through (x ∷ K) m n = Through K m n ⊎ (Through K m x × Through K x n)
 
+  -- it can be decided, number by number
   unfoldable pub through? : (K : List ℕ) (m n : ℕ) → Dec (Through K m n)
   through? [] m n = R? m n
   through? (x ∷ K) m n = either (through? K m n) (both (through? K m x) (through? K x n))
 
+  -- it is a chain, and one link is such a chain
   pub through-chain : (K : List ℕ) (m n : ℕ) → Through K m n → Chain R m n
   through-chain [] m n b = one b
   through-chain (x ∷ K) m n (inl c) = through-chain K m n c
@@ -69,6 +72,7 @@ module _ (R : ℕ → ℕ → Type 0) (R? : (m n : ℕ) → Dec (R m n)) where
 
   -- where every link ends in a number of K
   module _ (K : List ℕ) (low : (m n : ℕ) → R m n → In n K) where
+    -- every chain is one through K
     pub chain-through : {m n : ℕ} → Chain R m n → Through K m n
     chain-through (one {m = m} {n = n} b) = through-link K m n b
     chain-through (more {m = m} {k = k} {n = n} c b) = through-join K m k n (low (final c .0) k (final c .1)) (chain-through c) (through-link K k n b)
