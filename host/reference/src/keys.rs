@@ -8,14 +8,15 @@ use crate::{complement, Refusal, KEY_ABSENT, KEY_ZERO, ROW_SHORT, TAU};
 struct KeySet([u64; 1024]);
 
 impl KeySet {
+    const EMPTY: KeySet = KeySet([0; 1024]);
+
     /// The keys other than 0 that stand in the record, and how many they are.
     fn of(record: &[u8]) -> Result<(KeySet, u16), Refusal> {
-        let mut set = KeySet([0; 1024]);
+        let mut set = KeySet::EMPTY;
         let mut count = 0;
         scan(record, |node| {
             let key = node.key();
-            if key != 0 && !set.has(key) {
-                set.0[key as usize / 64] |= 1 << (key % 64);
+            if key != 0 && set.add(key) {
                 count += 1;
             }
         })?;
@@ -24,6 +25,13 @@ impl KeySet {
 
     fn has(&self, key: u16) -> bool {
         self.0[key as usize / 64] >> (key % 64) & 1 == 1
+    }
+
+    /// Puts the key in; true if it was not in before.
+    fn add(&mut self, key: u16) -> bool {
+        let new = !self.has(key);
+        self.0[key as usize / 64] |= 1 << (key % 64);
+        new
     }
 }
 
@@ -60,21 +68,25 @@ pub fn undo_listing(record: &[u8], row: &mut [u16]) -> Result<usize, Refusal> {
     fill(row, &keys)
 }
 
-/// The keys other than this one that stand below a prefix holding it, ascending, into the row; answers how many.
+/// The keys other than this one that chains lead to from it, ascending, into the row; answers how many. One link goes
+/// from a key to the keys below its prefixes. Only the nearest key above each is linked to it: those further up are
+/// linked to that one.
 pub fn waiting(record: &[u8], key: u16, row: &mut [u16]) -> Result<usize, Refusal> {
+    // above[d]: the nearest key at depth d or above it on the way to the present node; 0 if there is none.
+    let mut above = [0u16; DEPTH_LIMIT + 1];
+    // Each link: the lower key, and one more than the place of the upper key's link before this one.
+    let mut links: Vec<(u16, u16)> = Vec::new();
+    // For each upper key one more than the place of its last link.
+    let mut last = vec![0u16; 1 << 16];
     let mut stands = false;
-    // The depth of the uppermost prefix holding the key above the present node.
-    let mut cover = usize::MAX;
-    let mut below = Vec::new();
     scan(record, |node| {
-        if node.depth <= cover {
-            cover = usize::MAX;
-        }
-        if node.key() != 0 && node.key() == key {
-            stands = true;
-            cover = cover.min(node.depth);
-        } else if node.key() != 0 && cover < node.depth {
-            below.push(node.key());
+        let upper = above[node.depth - 1];
+        above[node.depth] = upper;
+        if node.key() != 0 {
+            above[node.depth] = node.key();
+            stands |= node.key() == key;
+            links.push((node.key(), last[upper as usize]));
+            last[upper as usize] = links.len() as u16;
         }
     })?;
     if key == 0 {
@@ -83,9 +95,25 @@ pub fn waiting(record: &[u8], key: u16, row: &mut [u16]) -> Result<usize, Refusa
     if !stands {
         return Err(KEY_ABSENT);
     }
-    below.sort_unstable();
-    below.dedup();
-    fill(row, &below)
+    let mut met = KeySet::EMPTY;
+    met.add(key);
+    // The key itself, then every other one when it is first met.
+    let mut reached = vec![key];
+    let mut done = 0;
+    while let Some(&upper) = reached.get(done) {
+        done += 1;
+        let mut link = last[upper as usize];
+        while link != 0 {
+            let (lower, before) = links[link as usize - 1];
+            if met.add(lower) {
+                reached.push(lower);
+            }
+            link = before;
+        }
+    }
+    let list = &mut reached[1..];
+    list.sort_unstable();
+    fill(row, list)
 }
 
 /// The list goes to the front of the row; the rest of the row stays.

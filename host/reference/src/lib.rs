@@ -1,4 +1,4 @@
-//! All operations of the record in plain Rust, written from document 01 alone.
+//! All operations of the record in plain Rust, written from documents 01 and 02 alone.
 //!
 //! It shares no code with the proved library and exists to be compared with it, answer by answer and in time.
 //! Every function works on a record's bytes; `Err` bears the refusal number, and then no lent byte has changed.

@@ -1,4 +1,4 @@
-//! Holds the fast operations against the rules of document 01, written down once more word by word on the term.
+//! Holds the fast operations against the rules of documents 01 and 02, written down once more word by word on the term.
 
 #[derive(Clone)]
 enum Term {
@@ -140,8 +140,8 @@ impl Term {
         ]
     }
 
-    /// The keys other than m below a prefix that holds m.
-    fn waits_for(&self, m: u16) -> Vec<u16> {
+    /// One link: the keys other than m below a prefix that holds m.
+    fn below(&self, m: u16) -> Vec<u16> {
         let mut keys = Vec::new();
         for part in self.parts() {
             if let Prefix(_, key, rest) = part {
@@ -150,23 +150,28 @@ impl Term {
                 }
             }
         }
-        keys.sort();
-        keys.dedup();
         keys
     }
 
-    /// `waits_for`, closed over chains.
+    /// Where chains of one link or more lead from m: one more link for every key, until no key is new.
     fn reaches(&self, m: u16) -> Vec<u16> {
-        let mut keys = self.waits_for(m);
-        let mut at = 0;
-        while at < keys.len() {
-            for key in self.waits_for(keys[at]) {
-                if !keys.contains(&key) {
-                    keys.push(key);
-                }
+        let mut keys = self.below(m);
+        loop {
+            let more: Vec<u16> =
+                keys.iter().flat_map(|key| self.below(*key)).filter(|key| !keys.contains(key)).collect();
+            if more.is_empty() {
+                return keys;
             }
-            at += 1;
+            keys.extend(more);
         }
+    }
+
+    /// The waiting list of m: where chains lead, without m itself, each key once, ascending.
+    fn waits_for(&self, m: u16) -> Vec<u16> {
+        let mut keys = self.reaches(m);
+        keys.retain(|key| *key != m);
+        keys.sort();
+        keys.dedup();
         keys
     }
 }
@@ -218,7 +223,7 @@ fn agrees_with_the_rules_as_written() {
     let mut random = Random(88172645463325252);
     for _ in 0..10_000 {
         let size = 2 + random.below(14);
-        let keys = [0, 2, 4][random.below(3) as usize];
+        let keys = [0, 2, 4, 6][random.below(4) as usize];
         let term = random.term(size, keys);
         let bytes = term.bytes();
         let nodes = term.parts().len() as u16;
@@ -247,6 +252,23 @@ fn agrees_with_the_rules_as_written() {
             }
         }
         assert_eq!(row_of(|row| reference::undo_listing(&bytes, row)), undoable, "{bytes:02x?}");
+    }
+}
+
+/// What stood in the way of key 1: the technician's record (02, [5]) and the examples of 01.
+#[test]
+fn the_waiting_list_follows_the_chain() {
+    let prefix = |action: u8, key: u16, rest: Term| Prefix(action, key, rest.into());
+    let chain = Parallel(prefix(1, 1, prefix(2, 2, Nil)).into(), prefix(130, 2, prefix(3, 3, Nil)).into());
+    for (term, key, list) in [
+        (&chain, 1, vec![2, 3]),
+        (&chain, 2, vec![3]),
+        (&chain, 3, vec![]),
+        (&prefix(1, 1, prefix(2, 2, Nil)), 1, vec![2]),
+        (&prefix(1, 1, prefix(2, 2, Nil)), 2, vec![]),
+    ] {
+        assert_eq!(term.waits_for(key), list);
+        assert_eq!(row_of(|row| reference::waiting(&term.bytes(), key, row)), list);
     }
 }
 
