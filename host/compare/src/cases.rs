@@ -32,7 +32,8 @@ pub fn calls(random: &mut Random, record: &[u8]) -> Vec<Call> {
     let nodes = reference::read(record).unwrap_or(9);
     let any_key = |random: &mut Random| match random.below(3) {
         0 => random.pick(&EDGE_KEYS),
-        1 if !keys.is_empty() => random.pick(&keys),
+        // At times another key with the same remainder by 4,096, which may stand nowhere.
+        1 if !keys.is_empty() => random.pick(&keys).wrapping_add(random.pick(&[0, 0, 0, 4096, 8192])),
         _ => random.below(nodes + 2) as u16,
     };
     let any_place = |random: &mut Random| match random.below(20) {
@@ -50,7 +51,8 @@ pub fn calls(random: &mut Random, record: &[u8]) -> Vec<Call> {
     let last = nodes as u16 - 1;
     calls.extend([any_place(random), any_place(random), last, last + 1].map(|n| Call::Node { n }));
     steps(random, record, &mut calls, any_key);
-    for key in [0, any_key(random), any_key(random), any_key(random)] {
+    let first = keys.first().copied().unwrap_or(1);
+    for key in [0, first, any_key(random), any_key(random), any_key(random)] {
         calls.push(Call::Undo { key });
         waiting_rows(record, key, &mut calls);
     }

@@ -13,6 +13,9 @@ pub fn check(cases: u64, seed: u64) -> bool {
         tally.sort(&record);
         for call in cases::calls(&mut random, &record) {
             let right = Side::Reference.run(&call, &record).expect("the reference has every operation");
+            if matches!(call, Call::Waiting { .. }) {
+                tally.longest = tally.longest.max(right.answer as u16);
+            }
             match Side::Archive.run(&call, &record) {
                 None => tally.skipped += 1,
                 Some(found) if found == right => tally.compared += 1,
@@ -46,6 +49,8 @@ struct Tally {
     pairs: [[u64; 7]; 7],
     /// Readable records of the largest size or depth.
     limits: u64,
+    /// Keys in the longest waiting list.
+    longest: u16,
 }
 
 /// Two different conditions, counted from 0. All 21 pairs can fail at once: side by side, each on keys of its own.
@@ -75,6 +80,7 @@ impl std::fmt::Display for Tally {
         let (verdicts, refused, limits) = (self.verdicts, &self.refused[1..], self.limits);
         let (fewest, i, j) = pairs().map(|(i, j)| (self.pairs[i][j], i + 1, j + 1)).min().expect("there are pairs");
         write!(to, "records by verdict 0 to 7 {verdicts:?}, refused 1 and 2 {refused:?}, at a limit {limits}, ")?;
+        write!(to, "longest waiting list {}, ", self.longest)?;
         write!(to, "each two conditions fail at once {fewest} times or more with none below, {i} and {j} the fewest")
     }
 }

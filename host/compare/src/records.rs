@@ -2,6 +2,8 @@
 
 use reference::{DEPTH_LIMIT, NODE_LIMIT};
 
+use crate::shapes::{balanced, crossing, PARALLEL};
+
 /// A small generator of random numbers (splitmix64): the same seed gives the same records.
 pub struct Random(pub u64);
 
@@ -25,6 +27,12 @@ impl Random {
 
     pub fn pick<T: Copy>(&mut self, from: &[T]) -> T {
         from[self.below(from.len())]
+    }
+
+    pub fn shuffle<T>(&mut self, list: &mut [T]) {
+        for at in 1..list.len() {
+            list.swap(at, self.below(at + 1));
+        }
     }
 }
 
@@ -232,6 +240,34 @@ fn crossed(random: &mut Random) -> Vec<u8> {
     bytes
 }
 
+/// Keys in any order of their numbers: one after the other, or such as leave the same remainder by 4,096 or 8,192.
+fn chain_keys(random: &mut Random, count: usize) -> Vec<u16> {
+    let (first, apart) = (random.pick(&[1, 1, 4090, 65535 - count]), random.pick(&[1, 1, 4096, 8192]));
+    let round = (1 << 16) / apart;
+    let mut keys: Vec<u16> = (0..count).map(|at| (first + at % round * apart + at / round) as u16).collect();
+    match random.below(6) {
+        0 => keys.reverse(),
+        1 | 2 => random.shuffle(&mut keys),
+        3 => keys.fill(first as u16),
+        _ => (),
+    }
+    keys
+}
+
+/// A chain of keys that crosses from part to part, now and then closed to a ring, the parts in order or not.
+fn chained(random: &mut Random) -> Vec<u8> {
+    let count = 2 + size(random).min(NODE_LIMIT - 8) / 4;
+    let mut keys = chain_keys(random, count);
+    if random.percent(25) {
+        keys.push(keys[0]);
+    }
+    let mut parts = crossing(&keys, random.pick(&[2, 2, 3, 9]));
+    if random.percent(50) {
+        random.shuffle(&mut parts);
+    }
+    balanced(PARALLEL, &parts)
+}
+
 /// For each condition of soundness a record that fails it and no other (01, Examples on both sides). The keys are 1 and 2.
 const FAULTS: [&[u8]; 7] = [
     &[1, 1, 0, 0, 1, 2, 0, 1, 0],
@@ -264,7 +300,8 @@ pub fn any(random: &mut Random) -> Vec<u8> {
     let mut bytes = match random.below(100) {
         0..=24 => scattered(random),
         25..=44 => crossed(random),
-        45..=91 => sound(random),
+        45..=79 => sound(random),
+        80..=91 => chained(random),
         92..=96 => faults(random),
         _ => deep(random),
     };

@@ -1,5 +1,7 @@
 //! Records of a given size in the shapes that are hard for one or another way of looking at a term.
 
+use crate::records::Random;
+
 /// The name of a shape and how to build a record of that shape with about so many nodes, at most so many.
 pub type Shape = (&'static str, fn(usize) -> Vec<u8>);
 
@@ -16,12 +18,25 @@ pub const SHAPES: [Shape; 14] = [
     ("half a, half a', blank", |nodes| halves(nodes, false)),
     ("half a, half a', joined", |nodes| halves(nodes, true)),
     ("pairs of long chains", chain_pairs),
-    ("causal chain", |nodes| causal(nodes, false)),
-    ("causal chain, backwards", |nodes| causal(nodes, true)),
+    ("causal chain", |nodes| chain(nodes, 2, |_| ())),
+    ("causal chain, backwards", backwards),
+];
+
+/// More shapes for the waiting list alone: long lists, and keys that meet in a table.
+pub const CHAINS: [Shape; 7] = [
+    ("chain, keys descending", |nodes| chain(nodes, 2, |keys| keys.reverse())),
+    ("chain, keys shuffled", |nodes| chain(nodes, 2, |keys| Random(1).shuffle(keys))),
+    ("chain, 32 keys a part", |nodes| chain(nodes, 32, |keys| Random(1).shuffle(keys))),
+    ("ring", |nodes| chain(nodes, 32, |keys| keys[keys.len() - 1] = keys[0])),
+    ("one key in every place", |nodes| chain(nodes, 32, |keys| keys.fill(7))),
+    ("16 keys equal mod 4,096", |nodes| {
+        chain(nodes, 32, |keys| keys.iter_mut().for_each(|key| *key = 4096 * (*key % 16) + 7))
+    }),
+    ("one key above all others", star),
 ];
 
 const CHOICE: u8 = 2;
-const PARALLEL: u8 = 3;
+pub const PARALLEL: u8 = 3;
 
 fn prefix(action: u8, key: usize, rest: Vec<u8>) -> Vec<u8> {
     let mut bytes = vec![1, action, (key >> 8) as u8, key as u8];
@@ -42,7 +57,7 @@ fn restriction(name: u8, rest: Vec<u8>) -> Vec<u8> {
 }
 
 /// All parts under a balanced tree of this kind.
-fn balanced(kind: u8, parts: &[Vec<u8>]) -> Vec<u8> {
+pub fn balanced(kind: u8, parts: &[Vec<u8>]) -> Vec<u8> {
     match parts {
         [part] => part.clone(),
         _ => {
@@ -139,13 +154,39 @@ fn chain_pairs(nodes: usize) -> Vec<u8> {
     balanced(PARALLEL, &(0..(nodes / (2 * length + 4)).max(1)).map(pair).collect::<Vec<_>>())
 }
 
-/// Key 1 above 2, 2 above 3 and so on, each in a part of its own: a'[1].b[2].0 | b'[2].a[3].0 | ..
-fn causal(nodes: usize, backwards: bool) -> Vec<u8> {
-    let name = |key: usize| 1 + (key % 2) as u8;
-    let part = |key: usize| prefix(name(key) + 128, key, prefix(name(key + 1), key + 1, nil()));
-    let mut parts: Vec<Vec<u8>> = (1..=nodes / 4).map(part).collect();
-    if backwards {
-        parts.reverse();
-    }
+/// Each key above the next one, so many in a part; the last of a part is the first of the next. With two in a part:
+/// a'[k1].b[k2].0, b'[k2].a[k3].0 and so on.
+pub fn crossing(keys: &[u16], length: usize) -> Vec<Vec<u8>> {
+    let name = |key: u16| 1 + (key % 2) as u8;
+    let part = |from: usize| {
+        let upper = keys[from];
+        let lower = keys[from + 1..].iter().take(length - 1).rev();
+        prefix(name(upper) + 128, upper.into(), lower.fold(nil(), |rest, &key| prefix(name(key), key.into(), rest)))
+    };
+    (0..keys.len() - 1).step_by(length - 1).map(part).collect()
+}
+
+/// As many keys as chains from part to part of so many nodes have: 1, 2, 3 and so on.
+fn chain_keys(nodes: usize, length: usize) -> Vec<u16> {
+    (1..).take(nodes / (length + 2) * (length - 1) + 1).collect()
+}
+
+/// A chain from part to part, the keys as they are or what is made of them.
+fn chain(nodes: usize, length: usize, change: fn(&mut [u16])) -> Vec<u8> {
+    let mut keys = chain_keys(nodes, length);
+    change(&mut keys);
+    balanced(PARALLEL, &crossing(&keys, length))
+}
+
+/// The first part of the chain at the end of the record.
+fn backwards(nodes: usize) -> Vec<u8> {
+    let mut parts = crossing(&chain_keys(nodes, 2), 2);
+    parts.reverse();
     balanced(PARALLEL, &parts)
+}
+
+/// One key above all others, which stand side by side.
+fn star(nodes: usize) -> Vec<u8> {
+    let leaf = |i: usize| prefix(name(i), i + 1, nil());
+    prefix(1, 1, balanced(PARALLEL, &(1..nodes / 3).map(leaf).collect::<Vec<_>>()))
 }

@@ -6,16 +6,31 @@ use std::time::{Duration, Instant};
 use crate::archive;
 use crate::call::{Call, Side};
 use crate::cases;
-use crate::shapes::SHAPES;
+use crate::shapes::{Shape, CHAINS, SHAPES};
 
 /// Samples of each measurement; the median counts.
 const SAMPLES: usize = 7;
 
-/// A call to be timed, with a word where one operation is timed in two ways.
-fn timed_calls(record: &[u8]) -> Vec<(&'static str, Call)> {
+/// Calls to be timed, with a word where one operation is timed in two ways.
+type Calls = Vec<(&'static str, Call)>;
+
+/// Every shape with the calls that are timed on it: all operations, and on the chains the waiting list alone.
+fn shapes() -> impl Iterator<Item = (Shape, fn(&[u8]) -> Calls)> {
+    let all = SHAPES.map(|shape| (shape, all_calls as fn(&[u8]) -> Calls));
+    let chains = CHAINS.map(|shape| (shape, waiting_calls as fn(&[u8]) -> Calls));
+    all.into_iter().chain(chains)
+}
+
+/// The waiting lists of the first key that the record shows and of the last: a chain begins at the one or at the other.
+fn waiting_calls(record: &[u8]) -> Calls {
+    let keys = cases::keys(record);
+    let waiting = |key: Option<&u16>| Call::Waiting { key: key.copied().unwrap_or(1), row: 4096, fill: 0 };
+    vec![("waiting, first", waiting(keys.first())), ("waiting, last", waiting(keys.last()))]
+}
+
+fn all_calls(record: &[u8]) -> Calls {
     let mut steps = Vec::new();
     reference::for_each_step(record, |p, q, _| steps.push((p, q))).expect("the shapes are readable");
-    let keys = cases::keys(record);
     let mut row = [0; 4096];
     let undos = reference::undo_listing(record, &mut row).expect("the row is long enough");
     let key = reference::least_free(record).expect("the shapes are readable");
@@ -23,7 +38,7 @@ fn timed_calls(record: &[u8]) -> Vec<(&'static str, Call)> {
     let any = (0..).zip(&nodes).find(|(_, node)| node.kind == 1).map_or(0, |(number, _)| number);
     let (p, q) = steps.last().copied().unwrap_or((any, 0));
     let past = if steps.is_empty() { Call::First { p: 0, q: 0 } } else { Call::First { p, q: q + 1 } };
-    vec![
+    let mut calls = vec![
         ("read", Call::Read),
         ("forward, last", Call::Forward { p, q, key }),
         ("undo, last", Call::Undo { key: if undos > 0 { row[undos - 1] } else { 1 } }),
@@ -32,11 +47,12 @@ fn timed_calls(record: &[u8]) -> Vec<(&'static str, Call)> {
         ("count", Call::Count),
         ("least_free", Call::LeastFree),
         ("undo_listing", Call::UndoListing { row: 4096, fill: 0 }),
-        ("waiting", Call::Waiting { key: keys.first().copied().unwrap_or(1), row: 4096, fill: 0 }),
         ("blank", Call::Blank),
         ("verdict", Call::Verdict),
         ("node, last", Call::Node { n: nodes.len() as u16 - 1 }),
-    ]
+    ];
+    calls.extend(waiting_calls(record));
+    calls
 }
 
 /// The time of `times` calls, each on a fresh copy of the record.
@@ -99,7 +115,7 @@ pub fn ratios() -> bool {
         "operation", "shape", "nodes", "library us", "reference us", "ratio"
     );
     let mut worst: Vec<(&str, f64, String)> = Vec::new();
-    for (shape, build) in SHAPES {
+    for ((shape, build), timed_calls) in shapes() {
         for nodes in [100, 1000, 4000] {
             let record = build(nodes);
             let nodes = reference::read(&record).expect("the shapes are readable");
@@ -133,7 +149,7 @@ pub fn growth() -> bool {
         "{:<18}{:<26}{:<10}{:>10}{:>10}{:>10}{:>10}{:>10}",
         "operation", "shape", "side", 500, 1000, 2000, 4000, "x8 gives"
     );
-    for (shape, build) in SHAPES {
+    for ((shape, build), timed_calls) in shapes() {
         let records = SIZES.map(build);
         let calls = records.each_ref().map(|record| timed_calls(record));
         for (at, (operation, _)) in calls[0].iter().enumerate() {

@@ -3,7 +3,7 @@
 use crate::archive;
 use crate::call::Call;
 use crate::cases;
-use crate::shapes::SHAPES;
+use crate::shapes::{CHAINS, SHAPES};
 
 /// Records at the limits: the deepest chains, done and not, and the largest record of each shape.
 fn records() -> Vec<(String, Vec<u8>)> {
@@ -27,7 +27,7 @@ fn records() -> Vec<(String, Vec<u8>)> {
         ("comb 256 deep, all left".to_string(), [vec![3u8; 255], vec![0; 256]].concat()),
         ("choices 256 deep, all left".to_string(), [vec![2u8; 255], vec![0; 256]].concat()),
     ];
-    records.extend(SHAPES.iter().map(|(shape, build)| (shape.to_string(), build(4096))));
+    records.extend(SHAPES.iter().chain(&CHAINS).map(|(shape, build)| (shape.to_string(), build(4096))));
     records
 }
 
