@@ -121,6 +121,21 @@ static void undo(const char *asked, uint16_t key, uint8_t refusal, uint8_t label
     tell(asked, concoursel_undo(method, sizeof method, key), refusal, label, before);
 }
 
+/* Says which keys have to be taken back before this one, and holds them against those that a chemist would expect. */
+static void waiting(const char *asked, uint16_t key, const uint16_t *expected, size_t count) {
+    uint16_t row[sizeof steps / sizeof *steps]; /* a key marks a step, so there are no more keys than steps */
+    uint64_t answer = concoursel_waiting(method, sizeof method, key, row, sizeof row / sizeof *row);
+    size_t number = CONCOURSEL_NUMBER(answer);
+    printf("%s\n  ->", asked);
+    for (size_t i = 0; i < number; i++) printf("%s key %u", i ? "," : "", row[i]);
+    printf("%s\n", number ? "" : " nothing");
+    int right = number == count && memcmp(row, expected, count * sizeof *row) == 0;
+    if (CONCOURSEL_REFUSAL(answer) != CONCOURSEL_DONE || !right) {
+        printf("  -> NOT AS EXPECTED\n");
+        surprises++;
+    }
+}
+
 int main(void) {
     uint8_t blank[sizeof method];
     memcpy(blank, method, sizeof method);
@@ -144,6 +159,9 @@ int main(void) {
     printf("\n-- back --\n");
     printf("The diluter has nothing after its dilute step. The old controller would now take it back there alone.\n");
     undo("take back dilute (key 2) while the reader's result stands on it", 2, CONCOURSEL_NO_UNDO, 0);
+    printf("In the diluter only dilute stands on the sample. But the reader's result stands on dilute.\n");
+    waiting("what has to go before the sample (key 1)?", 1, (const uint16_t[]){2, 3}, 2);
+    waiting("what has to go before the hand-over (key 3)?", 3, (const uint16_t[]){0}, 0);
     undo("take back the hand-over (key 3)", 3, CONCOURSEL_DONE, 0);
     undo("take back dilute (key 2), whole: diluter and reader", 2, CONCOURSEL_DONE, 0);
     undo("take back dilute (key 2) once more", 2, CONCOURSEL_KEY_ABSENT, 0);

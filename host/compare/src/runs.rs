@@ -1,4 +1,5 @@
-//! Whole runs: a sound record is taken back key by key in a random order, then done again by its places.
+//! Whole runs: a sound record is taken back key by key in a random order, then done again by its places. Before a key
+//! goes, all keys of its waiting list have gone.
 
 use crate::call::{hex, Call, Side};
 use crate::random;
@@ -44,6 +45,11 @@ fn there_and_back(random: &mut Random, start: &[u8]) -> Result<u64, String> {
             break;
         }
         let key = random.pick(&listing.row[..allowed]);
+        let waiting = ask(&Call::Waiting { key, row: 4096, fill: 0 }, start)?;
+        let gone = |key: &u16| taken.iter().any(|step: &Taken| step.key == *key);
+        if !waiting.row[..waiting.answer as usize].iter().all(gone) {
+            return Err(format!("key {key} goes before its waiting list, after {} undos", taken.len()));
+        }
         let (p, q) = places(&record, key);
         let outcome = ask(&Call::Undo { key }, &record)?;
         if outcome.answer >= 256 {
