@@ -153,8 +153,15 @@ uint64_t concoursel_least_free(const uint8_t *record, size_t len);
 uint64_t concoursel_undo_listing(const uint8_t *record, size_t len, uint16_t *row, size_t row_len);
 
 /*
- * Writes the keys that the given key waits for, ascending, to the front of the row and answers how many: those other
- * than it that stand below a prefix holding it. What lies past them stays as it was. Refusals: 1, 2, 3, 7, 9.
+ * Writes the keys that the given key waits for, ascending, to the front of the row and answers how many; what lies past
+ * them stays as it was. They are all the other keys that a chain leads to: one link goes from a key to the keys below
+ * its prefixes, wherever those stand. A key is listed once, the given one never, also where a chain comes back to it.
+ *
+ *   1[1].2[2].0 | -2[2].3[3].0     an action with its key; -2 is the co-name of 2
+ *
+ * Key 1 waits for 2 and 3: 2 stands below 1, and 3 stands below the other half of 2. In a sound record these are the
+ * keys that have to be taken back first, and the key's own undo is allowed exactly when there are none.
+ * A row of 4096 places is always long enough. Refusals: 1, 2, 3, 7, 9.
  */
 uint64_t concoursel_waiting(const uint8_t *record, size_t len, uint16_t key, uint16_t *row, size_t row_len);
 
