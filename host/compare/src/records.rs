@@ -241,7 +241,7 @@ fn crossed(random: &mut Random) -> Vec<u8> {
 }
 
 /// Keys in any order of their numbers: one after the other, or such as leave the same remainder by 4,096 or 8,192.
-fn chain_keys(random: &mut Random, count: usize) -> Vec<u16> {
+fn keys_in_any_order(random: &mut Random, count: usize) -> Vec<u16> {
     let (first, apart) = (random.pick(&[1, 1, 4090, 65535 - count]), random.pick(&[1, 1, 4096, 8192]));
     let round = (1 << 16) / apart;
     let mut keys: Vec<u16> = (0..count).map(|at| (first + at % round * apart + at / round) as u16).collect();
@@ -257,7 +257,7 @@ fn chain_keys(random: &mut Random, count: usize) -> Vec<u16> {
 /// A chain of keys that crosses from part to part, now and then closed to a ring, the parts in order or not.
 fn chained(random: &mut Random) -> Vec<u8> {
     let count = 2 + size(random).min(NODE_LIMIT - 8) / 4;
-    let mut keys = chain_keys(random, count);
+    let mut keys = keys_in_any_order(random, count);
     if random.percent(25) {
         keys.push(keys[0]);
     }

@@ -74,7 +74,8 @@ pub fn undo_listing(record: &[u8], row: &mut [u16]) -> Result<usize, Refusal> {
 pub fn waiting(record: &[u8], key: u16, row: &mut [u16]) -> Result<usize, Refusal> {
     // above[d]: the nearest key at depth d or above it on the way to the present node; 0 if there is none.
     let mut above = [0u16; DEPTH_LIMIT + 1];
-    // Each link: the lower key, and one more than the place of the upper key's link before this one.
+    // Each link: the lower key, and one more than the place of the upper key's link before this one. A key with none
+    // above it is linked to 0, which no chain meets.
     let mut links: Vec<(u16, u16)> = Vec::new();
     // For each upper key one more than the place of its last link.
     let mut last = vec![0u16; 1 << 16];
