@@ -1,89 +1,41 @@
--- The test for condition 7: the nearest marked prefix above each entry generates the whole relation 'm marks a prefix above one marked n'.
+-- The test for condition 7: an entry knows the key right above it, and the keys right above generate the order.
 use mathlib.Core.Path.{_≡_, refl, ap}
-use mathlib.Core.Logic.{_⊎_, inl, inr, ⊎-elim, _↔_}
+use mathlib.Core.Logic.{_⊎_, inl, inr, ⊎-elim, _↔_, _≢_}
 use mathlib.Core.List.{List, [], _∷_, _++_}
 use Prim.Native.Nat.{ℕ, zero, suc, _+_, _≤_, _<_}
 use native.Mathlib.Decide.{ℕ-discrete}
 use native.Mathlib.Omega.{arith}
 use lib.ListN.{length, length-append}
 use Rattle.ccsk.specs.Term.{Term, nil, pre, cho, par, res, Has, labels, size}
-use Rattle.ccsk.proofs.Basic.{never, labels-same, labels-other, labels-fresh}
-pub use Rattle.sound.proofs.Chains.{chain-map}
-use Rattle.sound.proofs.Chains.{chain-join, chain-bind}
+use Rattle.ccsk.proofs.Basic.{labels-same, labels-other, labels-fresh}
+use Rattle.sound.proofs.Chains.{chain-map}
 use Rattle.sound.proofs.Derive.{apart-two}
-use Rattle.sound.specs.Sound.{count, Twice, Apart, Split, Above, Before, Chain, one, Ordered}
+use Rattle.sound.specs.Sound.{count, Twice, Apart, Split, Above, Ordered}
 use Rattle.causes.specs.Entry.{Entry, Scopes, under, open-scopes, marked, entries, all}
 use Rattle.causes.specs.Tests.{Leads, Acyclic}
+use Rattle.causes.specs.Nearest.{RightAbove}
+use Rattle.causes.proofs.Nearest.{right-above-keys, right-before, before-chain}
 
-leads-left : (x y : List Entry) (m n : ℕ) → Leads x m n → Leads (x ++ y) m n
-leads-left [] y m n i = absurd i
-leads-left (e ∷ x) y m n (inl i) = inl i
-leads-left (e ∷ x) y m n (inr i) = inr (leads-left x y m n i)
+-- the leads of two lists of entries, one after the other
+leads-append : (x y : List Entry) (m n : ℕ) → Leads (x ++ y) m n ↔ (Leads x m n ⊎ Leads y m n)
+leads-append [] y m n = (inr, λ i. ⊎-elim (λ z. absurd z) (λ z. z) i)
+leads-append (e ∷ x) y m n = let w = leads-append x y m n in
+    (λ i. ⊎-elim (λ z. inl (inl z)) (λ z. ⊎-elim (λ v. inl (inr v)) inr (w .0 z)) i, λ i. ⊎-elim (λ z. ⊎-elim inl (λ v. inr (w .1 (inl v))) z) (λ z. inr (w .1 (inr z))) i)
 
-leads-right : (x y : List Entry) (m n : ℕ) → Leads y m n → Leads (x ++ y) m n
-leads-right [] y m n i = i
-leads-right (e ∷ x) y m n i = inr (leads-right x y m n i)
+both-sides : {A B C D E : Type 0} → A ↔ (B ⊎ C) → B ↔ D → C ↔ E → A ↔ (D ⊎ E)
+both-sides f g h = (λ i. ⊎-elim (λ z. inl (g .0 z)) (λ z. inr (h .0 z)) (f .0 i), λ i. f .1 (⊎-elim (λ z. inl (g .1 z)) (λ z. inr (h .1 z)) i))
 
-leads-either : (x y : List Entry) (m n : ℕ) → Leads (x ++ y) m n → Leads x m n ⊎ Leads y m n
-leads-either [] y m n i = inr i
-leads-either (e ∷ x) y m n (inl i) = inl (inl i)
-leads-either (e ∷ x) y m n (inr i) = ⊎-elim (λ j. inl (inr j)) inr (leads-either x y m n i)
-
--- a lead goes from the key above the term to one inside, or is between two keys of the term
-leads-above : (n row u : ℕ) (s : Scopes) (t : Term) (m k : ℕ) → Leads (entries n row u s t) m k → ((m ≡ u) × Has k t) ⊎ Above m k t
+-- an entry's lead is the key right above it
+leads-nearest : (n row u : ℕ) (s : Scopes) (t : Term) (m k : ℕ) → Leads (entries n row u s t) m k ↔ RightAbove u t m k
 unfolding entries
-leads-above n row u s nil m k i = absurd i
-leads-above n row u s (pre a zero t) m k i = ⊎-elim (λ z. inl (z .0, inr (z .1))) (λ z. inr (inr z)) (leads-above (suc n) row u s t m k i)
-leads-above n row u s (pre a (suc j) t) m k (inl i) = inl (i .1, inl (i .2))
-leads-above n row u s (pre a (suc j) t) m k (inr i) = ⊎-elim (λ z. inr (inl z)) (λ z. inr (inr z)) (leads-above (suc n) (suc row) (suc j) s t m k i)
-leads-above n row u s (cho t r) m k i = ⊎-elim
-    (λ z. ⊎-elim (λ v. inl (v .0, inl (v .1))) (λ v. inr (inl v)) (leads-above (suc n) row u s t m k z))
-    (λ z. ⊎-elim (λ v. inl (v .0, inr (v .1))) (λ v. inr (inr v)) (leads-above (suc n + size t) (row + marked t) u s r m k z))
-    (leads-either (entries (suc n) row u s t) (entries (suc n + size t) (row + marked t) u s r) m k i)
-leads-above n row u s (par t r) m k i = ⊎-elim
-    (λ z. ⊎-elim (λ v. inl (v .0, inl (v .1))) (λ v. inr (inl v)) (leads-above (suc n) row u s t m k z))
-    (λ z. ⊎-elim (λ v. inl (v .0, inr (v .1))) (λ v. inr (inr v)) (leads-above (suc n + size t) (row + marked t) u s r m k z))
-    (leads-either (entries (suc n) row u s t) (entries (suc n + size t) (row + marked t) u s r) m k i)
-leads-above n row u s (res a t) m k i = leads-above (suc n) row u (under a n s) t m k i
-
--- both keys of a lead are above 0
-leads-pos : (n row u : ℕ) (s : Scopes) (t : Term) (m k : ℕ) → Leads (entries n row u s t) m k → (0 < m) × (0 < k)
-unfolding entries
-leads-pos n row u s nil m k i = absurd i
-leads-pos n row u s (pre a zero t) m k i = leads-pos (suc n) row u s t m k i
-leads-pos n row u s (pre a (suc j) t) m k (inl i) = (i .0, omega arith)
-leads-pos n row u s (pre a (suc j) t) m k (inr i) = leads-pos (suc n) (suc row) (suc j) s t m k i
-leads-pos n row u s (cho t r) m k i = ⊎-elim (leads-pos (suc n) row u s t m k) (leads-pos (suc n + size t) (row + marked t) u s r m k) (leads-either (entries (suc n) row u s t) (entries (suc n + size t) (row + marked t) u s r) m k i)
-leads-pos n row u s (par t r) m k i = ⊎-elim (leads-pos (suc n) row u s t m k) (leads-pos (suc n + size t) (row + marked t) u s r m k) (leads-either (entries (suc n) row u s t) (entries (suc n + size t) (row + marked t) u s r) m k i)
-leads-pos n row u s (res a t) m k i = leads-pos (suc n) row u (under a n s) t m k i
-
--- from the key above a term a chain leads to each key inside
-down : (n row u : ℕ) (s : Scopes) (t : Term) (k : ℕ) → 0 < u → 0 < k → Has k t → Chain (Leads (entries n row u s t)) u k
-unfolding entries
-down n row u s nil k p q i = absurd i
-down n row u s (pre a zero t) k p q (inl e) = never q e
-down n row u s (pre a zero t) k p q (inr i) = down (suc n) row u s t k p q i
-down n row u s (pre a (suc j) t) k p q (inl e) = one (inl (p, refl, e))
-down n row u s (pre a (suc j) t) k p q (inr i) = chain-join (one {n = suc j} (inl (p, refl, refl))) (chain-map (λ x y z. inr z) (down (suc n) (suc row) (suc j) s t k (omega arith) q i))
-down n row u s (cho t r) k p q (inl i) = chain-map (leads-left (entries (suc n) row u s t) (entries (suc n + size t) (row + marked t) u s r)) (down (suc n) row u s t k p q i)
-down n row u s (cho t r) k p q (inr i) = chain-map (leads-right (entries (suc n) row u s t) (entries (suc n + size t) (row + marked t) u s r)) (down (suc n + size t) (row + marked t) u s r k p q i)
-down n row u s (par t r) k p q (inl i) = chain-map (leads-left (entries (suc n) row u s t) (entries (suc n + size t) (row + marked t) u s r)) (down (suc n) row u s t k p q i)
-down n row u s (par t r) k p q (inr i) = chain-map (leads-right (entries (suc n) row u s t) (entries (suc n + size t) (row + marked t) u s r)) (down (suc n + size t) (row + marked t) u s r k p q i)
-down n row u s (res a t) k p q i = down (suc n) row u (under a n s) t k p q i
-
--- from a key a chain leads to each that stands below it
-above-chain : (n row u : ℕ) (s : Scopes) (t : Term) (m k : ℕ) → 0 < m → 0 < k → Above m k t → Chain (Leads (entries n row u s t)) m k
-unfolding entries
-above-chain n row u s nil m k p q i = absurd i
-above-chain n row u s (pre a zero t) m k p q (inl i) = never p (i .0)
-above-chain n row u s (pre a zero t) m k p q (inr i) = above-chain (suc n) row u s t m k p q i
-above-chain n row u s (pre a (suc j) t) m k p q (inl i) = rw (i .0) (chain-map (λ x y z. inr z) (down (suc n) (suc row) (suc j) s t k (omega arith) q (i .1)))
-above-chain n row u s (pre a (suc j) t) m k p q (inr i) = chain-map (λ x y z. inr z) (above-chain (suc n) (suc row) (suc j) s t m k p q i)
-above-chain n row u s (cho t r) m k p q (inl i) = chain-map (leads-left (entries (suc n) row u s t) (entries (suc n + size t) (row + marked t) u s r)) (above-chain (suc n) row u s t m k p q i)
-above-chain n row u s (cho t r) m k p q (inr i) = chain-map (leads-right (entries (suc n) row u s t) (entries (suc n + size t) (row + marked t) u s r)) (above-chain (suc n + size t) (row + marked t) u s r m k p q i)
-above-chain n row u s (par t r) m k p q (inl i) = chain-map (leads-left (entries (suc n) row u s t) (entries (suc n + size t) (row + marked t) u s r)) (above-chain (suc n) row u s t m k p q i)
-above-chain n row u s (par t r) m k p q (inr i) = chain-map (leads-right (entries (suc n) row u s t) (entries (suc n + size t) (row + marked t) u s r)) (above-chain (suc n + size t) (row + marked t) u s r m k p q i)
-above-chain n row u s (res a t) m k p q i = above-chain (suc n) row u (under a n s) t m k p q i
+leads-nearest n row u s nil m k = (λ i. i, λ i. i)
+leads-nearest n row u s (pre a zero t) m k = leads-nearest (suc n) row u s t m k
+leads-nearest n row u s (pre a (suc j) t) m k = let w = leads-nearest (suc n) (suc row) (suc j) s t m k in (⊎-elim inl (λ z. inr (w .0 z)), ⊎-elim inl (λ z. inr (w .1 z)))
+leads-nearest n row u s (cho t r) m k = both-sides (leads-append (entries (suc n) row u s t) (entries (suc n + size t) (row + marked t) u s r) m k)
+    (leads-nearest (suc n) row u s t m k) (leads-nearest (suc n + size t) (row + marked t) u s r m k)
+leads-nearest n row u s (par t r) m k = both-sides (leads-append (entries (suc n) row u s t) (entries (suc n + size t) (row + marked t) u s r) m k)
+    (leads-nearest (suc n) row u s t m k) (leads-nearest (suc n + size t) (row + marked t) u s r m k)
+leads-nearest n row u s (res a t) m k = leads-nearest (suc n) row u (under a n s) t m k
 
 -- how often a key stands that stands somewhere, that stands on two sides, that stands below itself
 has-count : (m : ℕ) (t : Term) → Has m t → 1 ≤ count m t
@@ -143,13 +95,12 @@ self-apart m (res a t) c i p = self-apart m t (let z = count-res m a t in omega 
 irreflexive : (t : Term) → Twice t → Split t → (m : ℕ) → 0 < m → ¬ Above m m t
 irreflexive t w s m h i = self-apart m t (w m h) i (s m h (let c = self-count m t i in let z = w m h in omega arith))
 
-leads-before : (t : Term) → Twice t → Split t → (m k : ℕ) → Leads (all t) m k → Before t m k
-leads-before t w s m k i = let p = leads-pos 0 0 0 open-scopes t m k i in
-    pick p (⊎-elim (λ z. never (p .0) (z .0)) (λ z. z) (leads-above 0 0 0 open-scopes t m k i))
-  where
-    pick : (0 < m) × (0 < k) → Above m k t → Before t m k
-    pick p b = (p .0, p .1, (λ e. irreflexive t w s m (p .0) (rw (← e) at b)), b)
+-- in such a term no key is right above itself
+right-apart : (t : Term) → Twice t → Split t → (m k : ℕ) → RightAbove 0 t m k → m ≢ k
+right-apart t w s m k i e = let b = right-above-keys t m k i in irreflexive t w s m (b .0) (rw (← e) at (b .1))
 
 -- condition 7
 pub ordered-by-entries : (t : Term) → Twice t → Split t → Ordered t ↔ Acyclic (all t)
-ordered-by-entries t w s = (λ o m c. o m (chain-map (leads-before t w s) c), λ o m c. o m (chain-bind (λ x y b. above-chain 0 0 0 open-scopes t x y (b .0) (b .1) (b .3)) c))
+ordered-by-entries t w s =
+    (λ o m c. o m (chain-map (λ x y l. let i = leads-nearest 0 0 0 open-scopes t x y .0 l in right-before t x y (right-apart t w s x y i) i) c),
+    λ o m c. o m (chain-map (λ x y i. leads-nearest 0 0 0 open-scopes t x y .1 i) (before-chain t c)))

@@ -4,6 +4,7 @@ pub mod Folds
 pub mod Pairs
 pub mod Sides
 pub mod Scopes
+pub mod Nearest
 pub mod Chains
 pub mod Verdict
 pub mod Taking

@@ -15,7 +15,7 @@ use Rattle.causes.specs.Entry.{Entry, Scopes, under, open-scopes, marked
 use Rattle.causes.specs.Tests.{EachKey, AtMostTwo, Complements, Beside, Enclosed, Leads, Acyclic}
 use Rattle.causes.specs.Links.{key-column, up-column, Linked, NoCycle, renamed}
 use Rattle.causes.proofs.Entries.{only-same, only-other}
-use Rattle.causes.proofs.Chains.{chain-map}
+use Rattle.sound.proofs.Chains.{chain-map}
 use Rattle.causes.proofs.Taking.{linked-low}
 use Rattle.causes.specs.Columns.{Faithful}
 

@@ -3,3 +3,4 @@ pub mod Entry
 pub mod Tests
 pub mod Links
 pub mod Columns
+pub mod Nearest

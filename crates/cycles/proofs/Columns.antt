@@ -11,7 +11,7 @@ use lib.Seq.{getD-drop}
 use Rattle.ccsk.specs.Numbers.{In}
 use Rattle.ccsk.proofs.Lists.{in-left, in-either}
 use Rattle.causes.specs.Links.{Linked, NoCycle, right-above}
-use Rattle.causes.proofs.Chains.{chain-map}
+use Rattle.sound.proofs.Chains.{chain-map}
 use Rattle.causes.proofs.Taking.{linked-low, linked-above, above-append}
 use Rattle.cycles.specs.Graph.{Over, Acyclic, Columns}
 

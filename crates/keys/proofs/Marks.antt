@@ -70,7 +70,7 @@ mark-zero m k e = rw e (record { one = omega arith; more = λ l H. rw append-nil
 
 -- a key was put in: the set holds it too, and it counts if it is new
 module _ (m : List ℕ) (k : Key) (h : k < 65536) (m′ : List ℕ) (r : ℕ) (A : Added m k m′ r) where
-  put-in : (l : List Key) → Holds m l → Holds m′ (snoc l k) × (distinct (snoc l k) ≡ distinct l + r)
+  pub put-in : (l : List Key) → Holds m l → Holds m′ (snoc l k) × (distinct (snoc l k) ≡ distinct l + r)
   put-in l H = rw (A .result, A .gain) (pick (member m k) refl)
     where
       pick : (b : Bool) → member m k ≡ b → Holds (added m k) (snoc l k) × (distinct (snoc l k) ≡ distinct l + cond b 0 1)

@@ -11,7 +11,7 @@ use Rattle.ccsk.specs.Numbers.{In}
 use Rattle.ccsk.specs.Term.{tick}
 use Rattle.causes.specs.Links.{key-column, up-column, Linked, right-above}
 use Rattle.causes.specs.Tests as tests
-use Rattle.causes.proofs.Chains.{chain-map}
+use Rattle.sound.proofs.Chains.{chain-map}
 use Rattle.causes.proofs.Taking.{linked-above, linked-low}
 use Rattle.causes.proofs.Renaming.{acyclic-columns}
 use Rattle.causes.specs.Columns.{Below, Positive, Square}

@@ -1,26 +1,27 @@
--- From the marked keys below a key to the answer.
-use mathlib.Core.Path.{_≡_, refl, sym, subst, _∙_}
-use mathlib.Core.Logic.{_≢_}
+-- From the set of keys that links lead to, to the answer.
+use mathlib.Core.Path.{_≡_, refl, sym, subst}
+use mathlib.Core.Logic.{_≢_, _↔_}
 use mathlib.Core.List.{List}
 use mathlib.Core.Bool.{Bool, true, false}
 use Prim.Native.Nat.{ℕ, _<_}
 use native.Mathlib.Omega.{arith}
 use lib.ListN.{length}
 use Rattle.ccsk.specs.Numbers.{In, Lists}
-use Rattle.ccsk.specs.Without.{without}
 use Rattle.ccsk.specs.Term.{Term, Key, Has}
-use Rattle.ccsk.proofs.Lists.{in-without, gone}
+use Rattle.sound.specs.Sound.{Chain, one, more}
+use Rattle.sound.proofs.Chains.{chain-map, final}
+use Rattle.causes.proofs.Nearest.{chains-agree, right-keys}
 use Rattle.format.specs.Read.{Reads}
 use Rattle.operations.specs.Ask.{WaitingList, Filled}
 use Rattle.operations.specs.Order.{WaitsFor}
 use Rattle.keyset.specs.Set.{member, membersBelow}
 use Rattle.keyset.proofs.Counts.{members-count}
 use Rattle.keyset.proofs.Members.{members-list}
-use Rattle.waiting.specs.Below.{below, Stands, MarkedBelow}
-use Rattle.waiting.proofs.Keys.{below-above, above-below, above-range}
-
-same : (s : List ℕ) (t u : Term) → Reads s t → Reads s u → t ≡ u
-same s t u p q = cc
+use Rattle.keys.proofs.Marks.{holds-members}
+use Rattle.filing.specs.Cabinet.{Cabinet, Link}
+use Rattle.filing.specs.Record.{Stands, AllFiled}
+use Rattle.chains.specs.Reach.{Closed}
+use Rattle.waiting.specs.Listed.{ToKeys, LeadsTo, Listed}
 
 -- whether the key was met, once its case is known
 module _ (s : List ℕ) (m : Key) (r : Bool) (S : Stands s m r) where
@@ -33,41 +34,45 @@ module _ (s : List ℕ) (m : Key) (r : Bool) (S : Stands s m r) where
 pub refused-absent : (s row : List ℕ) (m : Key) → 0 < m → Stands s m false → WaitingList s m row 7 0 row
 refused-absent s row m p S = WaitingList.key-absent (S .1 .reads) p (S .2)
 
-module _ (s marks : List ℕ) (m : Key) (n : ℕ) (B : MarkedBelow s m marks n) where
-  listed-waits : (k : Key) → In k (without m (below m (B .0))) → (0 < k) × WaitsFor (B .0) m k
-  listed-waits k i =
-      let n : k ≢ m = λ e. gone m (below m (B .0)) (subst (λ (j : Key). In j (without m (below m (B .0)))) e i) in
-      let a = below-above m k (B .0) (in-without k m (below m (B .0)) n .0 i) in
-      (a .0, (n, a .1))
+-- the set of the keys that were reached
+module _ (x : Cabinet) (m : Key) (marks : List ℕ) (n : ℕ) (C : Closed x m marks n) where
+  pub counted : n ≡ length (membersBelow marks 65536)
+  counted = rw (members-count marks 65536 (C .keys) (holds-members marks (C .keys) (C .holds) (C .small))) (C .count)
 
-  marked-waits : (k : Key) → (k < 65536) × (member marks k ≡ true) → (0 < k) × WaitsFor (B .0) m k
-  marked-waits k w = listed-waits k (B .2 .exact k (w .0) .0 (w .1))
+  module _ (K : ToKeys x) where
+    key-reached : (k : Key) → LeadsTo x m k → 0 < k
+    key-reached k w = let l = final (w .1) in K (l .0) k (l .1)
 
-  -- the keys that were counted are those of the set
-  pub counted : (top : ℕ) → top ≡ 65536 → n ≡ length (membersBelow marks top)
-  counted top e = B .3 ∙ sym (members-count marks top (without m (below m (B .0))) (λ k. (λ i. into k i, λ w. B .2 .exact k (omega (arith, w .0)) .0 (w .1))))
+    no-zero : member marks 0 ≡ false
+    no-zero = pick (member marks 0) refl
+      where
+        pick : (b : Bool) → member marks 0 ≡ b → b ≡ false
+        pick true e = absurd (omega (arith, key-reached 0 (C .exact 0 .0 (C .holds .exact 0 (omega arith) .0 e))))
+        pick false e = refl
+
+    pub reached-listed : (row row′ : List ℕ) (r y : ℕ) → Filled (membersBelow marks 65536) row r y row′ → Listed x m row r y row′
+    reached-listed row row′ r y F = (membersBelow marks 65536, members-list marks no-zero 65536 (LeadsTo x m) each, F)
+      where
+        each : (k : Key) → (k < 65536) × (member marks k ≡ true) ↔ (0 < k) × LeadsTo x m k
+        each k = (λ w. let l = C .exact k .0 (C .holds .exact k (w .0) .0 (w .1)) in (key-reached k l, l),
+            λ w. let i = C .exact k .1 (w .1) in (C .small k i, C .holds .exact k (C .small k i) .1 i))
+
+-- the links of a record
+module _ (s : List ℕ) (x : Cabinet) (A : AllFiled s x) where
+  abbrev of : Term
+  of = A .1 .0
+
+  pub to-keys : ToKeys x
+  to-keys m n l = right-keys 0 of m n (A .1 .2 m n .0 l) .1
+
+  -- chains of links are chains of the order
+  waits : (m k : Key) → LeadsTo x m k ↔ WaitsFor of m k
+  waits m k = (λ w. (w .0, chains-agree of m k (w .0) .1 (chain-map (λ i j. A .1 .2 i j .0) (w .1))), λ w. (w .0, chain-map (λ i j. A .1 .2 i j .1) (chains-agree of m k (w .0) .0 (w .1))))
+
+  pub answered : (m : Key) (row row′ : List ℕ) (r y : ℕ) → 0 < m → Stands s m true → Listed x m row r y row′ → WaitingList s m row r y row′
+  answered m row row′ r y p S L =
+      WaitingList.done (A .1 .1 .reads) p (subst (Has m) (same (S .0) of (S .1 .reads) (A .1 .1 .reads)) (S .2))
+        (L .1 .0, λ k. (λ i. let w = L .1 .1 k .0 i in (w .0, waits m k .0 (w .1)), λ w. L .1 .1 k .1 (w .0, waits m k .1 (w .1)))) (L .2)
     where
-      into : (k : Key) → In k (without m (below m (B .0))) → (k < top) × (member marks k ≡ true)
-      into k i =
-          let h : k < 65536 = omega (arith, above-range m k (B .0) (B .1 .fits .range) (listed-waits k i .1 .1)) in
-          (omega arith, B .2 .exact k h .1 i)
-
-  waits-marked : (k : Key) → (0 < k) × WaitsFor (B .0) m k → (k < 65536) × (member marks k ≡ true)
-  waits-marked k w =
-      let h : k < 65536 = omega (arith, above-range m k (B .0) (B .1 .fits .range) (w .1 .1)) in
-      (h, B .2 .exact k h .1 (in-without k m (below m (B .0)) (w .1 .0) .1 (above-below m k (B .0) (w .0) (w .1 .1))))
-
-  no-zero : member marks 0 ≡ false
-  no-zero = pick (member marks 0) refl
-    where
-      pick : (b : Bool) → member marks 0 ≡ b → b ≡ false
-      pick true e = absurd (omega (arith, marked-waits 0 (omega arith, e) .0))
-      pick false e = refl
-
-  waits-listed : (top : ℕ) → top ≡ 65536 → Lists (WaitsFor (B .0) m) (membersBelow marks top)
-  waits-listed top e = members-list marks no-zero top (WaitsFor (B .0) m) (λ k. (λ w. marked-waits k (omega (arith, w .0), w .1), λ w. let v = waits-marked k w in (omega (arith, v .0), v .1)))
-
-  pub answered : (row row′ : List ℕ) (r x : ℕ) → 0 < m → Stands s m true → Filled (membersBelow marks 65536) row r x row′ → WaitingList s m row r x row′
-  answered row row′ r x p S F =
-      let e : S .0 ≡ B .0 = same s (S .0) (B .0) (S .1 .reads) (B .1 .reads) in
-      WaitingList.done (B .1 .reads) p (subst (Has m) e (S .2)) (waits-listed 65536 refl) F
+      same : (t u : Term) → Reads s t → Reads s u → t ≡ u
+      same t u p q = cc

@@ -1,5 +1,2 @@
--- Laws of the waiting list: the keys below a key, going through a record to find them, and the answer.
-pub mod Keys
-pub mod Standing
-pub mod Passing
+-- Laws of the waiting list: from the set of keys that were reached to the answer.
 pub mod Answers

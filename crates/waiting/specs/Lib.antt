@@ -1,2 +1,2 @@
 -- What the helpers of the waiting list promise each other.
-pub mod Below
+pub mod Listed

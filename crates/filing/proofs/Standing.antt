@@ -15,7 +15,7 @@ use Rattle.format.specs.Flat.{keysOf, after, Due, keyAt}
 use Rattle.format.specs.Kinds.{bodyLength}
 use Rattle.format.proofs.Flat.{keys-head, key-here, due-after, none-due, all-due, keys-one, keys-none}
 use Rattle.keys.specs.Gather.{RecordOf, Readable}
-use Rattle.waiting.specs.Below.{Stands, MetBy}
+use Rattle.filing.specs.Record.{Stands, MetBy}
 
 -- whether m stands in the list
 abbrev Tells : Key → List Key → Bool → Type 0

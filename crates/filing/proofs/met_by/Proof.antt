@@ -1,7 +1,7 @@
 -- `met_by` meets its contract: a node that holds the key meets it, any other changes nothing.
 use mathlib.Core.Path.{refl}
-use Rattle.waiting.proofs.met_by.Statement.{statement}
-use Rattle.waiting.proofs.met_by.Tie as tie
+use Rattle.filing.proofs.met_by.Statement.{statement}
+use Rattle.filing.proofs.met_by.Tie as tie
 
 returns : tie.Need-returns
 returns c = record { same = λ e. refl; other = λ n. absurd (n (c .if1 .taken)) }

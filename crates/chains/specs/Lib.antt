@@ -1,0 +1,2 @@
+-- The keys that a chain of links leads to.
+pub mod Reach

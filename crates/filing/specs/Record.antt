@@ -1,0 +1,36 @@
+-- What filing the links of a whole record leaves behind.
+use mathlib.Core.Path.{_≡_}
+use mathlib.Core.Logic.{_≢_, _↔_}
+use mathlib.Core.List.{List, _∷_}
+use mathlib.Core.Bool.{Bool, true, false}
+use Prim.Native.Nat.{ℕ, zero, suc}
+use lib.ListN.{length}
+use Rattle.ccsk.specs.Term.{Term, Key, Has, Fsh}
+use Rattle.causes.specs.Nearest.{RightAbove}
+use Rattle.reader.specs.Due.{stacked, push}
+use Rattle.keys.specs.Gather.{RecordOf}
+use Rattle.filing.specs.Cabinet.{Cabinet, Link, Filed}
+
+-- the key right above what stands below a node that holds k, where u is the key right above that node
+abbrev pub below : Key → Key → Key
+below u zero = u
+below u (suc k) = suc k
+
+-- The top of a stack of n gives way to v, c times: there are r then.
+pub record Pushed (a : List ℕ) (n : ℕ) (v : Key) (c : ℕ) (a′ : List ℕ) (r : ℕ) : Type 0 where
+  pub long : length a′ ≡ length a
+  pub stack : (u : Key) (us : List Key) → stacked n a ≡ u ∷ us → stacked r a′ ≡ push c v us
+
+-- Whether m was met, after a node that holds `here`.
+pub record MetBy (met : Bool) (here m : Key) (r : Bool) : Type 0 where
+  pub same : here ≡ m → r ≡ true
+  pub other : here ≢ m → r ≡ met
+
+-- whether the key stands in the record
+abbrev pub Stands : List ℕ → Key → Bool → Type 0
+Stands s m true = (t : Term) × RecordOf s t × Has m t
+Stands s m false = (t : Term) × RecordOf s t × Fsh m t
+
+-- the links of the record, and no others, are filed
+abbrev pub AllFiled : List ℕ → Cabinet → Type 0
+AllFiled s x = Filed x × ((t : Term) × RecordOf s t × ((m n : Key) → Link x m n ↔ RightAbove 0 t m n))
