@@ -101,6 +101,7 @@ right-apart t w s m k i e = let b = right-above-keys t m k i in irreflexive t w 
 
 -- condition 7
 pub ordered-by-entries : (t : Term) → Twice t → Split t → Ordered t ↔ Acyclic (all t)
-ordered-by-entries t w s =
-    (λ o m c. o m (chain-map (λ x y l. let i = leads-nearest 0 0 0 open-scopes t x y .0 l in right-before t x y (right-apart t w s x y i) i) c),
-    λ o m c. o m (chain-map (λ x y i. leads-nearest 0 0 0 open-scopes t x y .1 i) (before-chain t c)))
+ordered-by-entries t w s = (
+  λ o m c. o m (chain-map (λ x y l. let i = leads-nearest 0 0 0 open-scopes t x y .0 l in right-before t x y (right-apart t w s x y i) i) c),
+  λ o m c. o m (chain-map (λ x y i. leads-nearest 0 0 0 open-scopes t x y .1 i) (before-chain t c)),
+)

@@ -1,9 +1,9 @@
 -- Looking at one link: the set and the queue grow together, and never beyond the number of links.
 use mathlib.Core.Path.{_≡_, refl, sym, ap, subst, _∙_}
-use mathlib.Core.Logic.{_⊎_, inl, inr, ⊎-elim, _≢_}
-use mathlib.Core.List.{List, [], _∷_, _++_}
+use mathlib.Core.Logic.{_⊎_, inl, inr, ⊎-elim}
+use mathlib.Core.List.{List, [], _∷_}
 use mathlib.Core.Bool.{Bool, true, false, cond}
-use Prim.Native.Nat.{ℕ, _+_, _-_, _*_, _≤_, _<_}
+use Prim.Native.Nat.{ℕ, suc, _+_, _-_, _*_, _≤_, _<_}
 use native.Mathlib.Decide.{ℕ-discrete, decLt}
 use native.Mathlib.Omega.{arith}
 use lib.ListN.{length, getD, set, drop, length-set, length-drop, List·getD-eq-default}
@@ -31,8 +31,12 @@ distinct-within (a ∷ l) c f = pick (in? a l) (distinct-within l)
   where
     pick : Dec (In a l) → ((c : List ℕ) → ((k : ℕ) → In k l → In k c) → distinct l ≤ length c) → distinct (a ∷ l) ≤ length c
     pick (yes i) g = rw (distinct-old a l i) (g c (λ k j. f k (inr j)))
-    pick (no n) g = omega (arith, distinct-new a l n, without-shorter a c (f a (inl refl)),
-        g (without a c) (λ k j. in-without k a c (λ e. n (subst (λ (z : ℕ). In z l) e j)) .1 (f k (inr j))))
+    pick (no n) g = omega (
+      arith,
+      distinct-new a l n,
+      without-shorter a c (f a (inl refl)),
+      g (without a c) (λ k j. in-without k a c (λ e. n (subst (λ (z : ℕ). In z l) e j)) .1 (f k (inr j))),
+    )
 
 -- the lower end of a chain is the lower key of a link
 pub chain-end : (x : Cabinet) {m k : Key} → Chain (Link x) m k → (j : Key) × Link x j k
@@ -41,10 +45,10 @@ chain-end x (more {k = j} c b) = (j, b)
 
 module _ (x : Cabinet) (F : Filed x) where
   -- a link has a number from 1 on, below the limit
-  pub link-low : (i : ℕ) → 0 < getD (x .upper) i 0 → i < node-limit
-  link-low i p = pick (decLt i node-limit)
+  pub link-low : (i : ℕ) → 0 < getD (x .upper) i 0 → i < suc node-limit
+  link-low i p = pick (decLt i (suc node-limit))
     where
-      pick : Dec (i < node-limit) → i < node-limit
+      pick : Dec (i < suc node-limit) → i < suc node-limit
       pick (yes h) = h
       pick (no h) = never p (List·getD-eq-default (x .upper) 0 (omega (arith, F .sized .upper)))
 
@@ -61,16 +65,21 @@ module _ (x : Cabinet) (F : Filed x) where
       let h = link-some (l .0) p in
       rw (← l .3) (at (l .0) h (link-low (l .0) p))
     where
-      at : (i : ℕ) → 0 < i → i < node-limit → In (getD (x .lower) i 0) (drop 1 (x .lower))
+      at : (i : ℕ) → 0 < i → i < suc node-limit → In (getD (x .lower) i 0) (drop 1 (x .lower))
       at i p h = subst (λ (j : ℕ). In j (drop 1 (x .lower))) (place i p) (getD-in (drop 1 (x .lower)) (i - 1) (omega (arith, length-drop 1 (x .lower), F .sized .lower)))
         where
           place : (i : ℕ) → 0 < i → getD (drop 1 (x .lower)) (i - 1) 0 ≡ getD (x .lower) i 0
           place i p = let e : 1 + (i - 1) ≡ i = omega arith in getD-drop 1 (x .lower) (i - 1) 0 ∙ ap (λ (j : ℕ). getD (x .lower) j 0) e
 
   -- the queue is never full
-  pub queue-room : {m : Key} {marks queue : List ℕ} {tail : ℕ} → Reached x m marks queue tail → tail < node-limit
-  queue-room R = omega (arith, R .count, length-drop 1 (x .lower), F .sized .lower,
-      distinct-within (R .keys) (drop 1 (x .lower)) (λ k i. low-key (chain-end x (R .led k i .1) .1)))
+  pub queue-room : {m : Key} {marks queue : List ℕ} {tail : ℕ} → Reached x m marks queue tail → tail < suc node-limit
+  queue-room R = omega (
+    arith,
+    R .count,
+    length-drop 1 (x .lower),
+    F .sized .lower,
+    distinct-within (R .keys) (drop 1 (x .lower)) (λ k i. low-key (chain-end x (R .led k i .1) .1)),
+  )
 
 -- a set with one key more holds all that it held
 within-added : (marks : List ℕ) (k : Key) → k < length marks * 8 → Within marks (added marks k)

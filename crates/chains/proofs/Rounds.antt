@@ -1,23 +1,23 @@
 -- The keys of the queue one after the other, until the links from all of them were followed: then the set is closed.
-use mathlib.Core.Path.{_≡_, refl, sym}
-use mathlib.Core.Logic.{_⊎_, inl, inr, ⊎-elim, _≢_}
+use mathlib.Core.Path.{_≡_, refl}
+use mathlib.Core.Logic.{_⊎_, inl, inr, ⊎-elim}
 use mathlib.Core.List.{List, []}
 use mathlib.Core.Bool.{true}
 use Prim.Native.Nat.{ℕ, suc, _+_, _≤_, _<_}
 use native.Mathlib.Decide.{ℕ-discrete}
 use native.Mathlib.Omega.{arith}
 use lib.ListN.{length, getD}
-use Rattle.ccsk.specs.Numbers.{In, distinct}
+use Rattle.ccsk.specs.Numbers.{distinct}
 use Rattle.ccsk.specs.Term.{Key}
 use Rattle.sound.specs.Sound.{Chain, one, more}
 use Rattle.format.specs.Limits.{node-limit}
 use Rattle.keyset.specs.Set.{member}
 use Rattle.keys.specs.Gather.{Holds}
-use Rattle.filing.specs.Cabinet.{Cabinet, Link, Filed}
+use Rattle.filing.specs.Cabinet.{Cabinet, Link}
 use Rattle.chains.specs.Reach.{Reached, From, Followed, Follows, Closed}
 use Rattle.chains.proofs.Meeting.{chain-end}
 
-pub none-reached : (x : Cabinet) (m : Key) (marks queue : List ℕ) → Holds marks [] → length queue ≡ node-limit → Reached x m marks queue 0
+pub none-reached : (x : Cabinet) (m : Key) (marks queue : List ℕ) → Holds marks [] → length queue ≡ suc node-limit → Reached x m marks queue 0
 unfolding distinct
 none-reached x m marks queue H e = record {
   keys = [];

@@ -3,7 +3,7 @@ use mathlib.Core.Path.{_≡_, refl, sym, ap, _∙_}
 use mathlib.Core.Logic.{_⊎_, inl, inr, ⊎-elim}
 use mathlib.Core.List.{List}
 use mathlib.Core.Bool.{true}
-use Prim.Native.Nat.{ℕ, _≤_, _<_}
+use Prim.Native.Nat.{ℕ, suc, _≤_, _<_}
 use native.Mathlib.Decide.{ℕ-discrete, decLt}
 use native.Mathlib.Omega.{arith}
 use lib.ListN.{length, getD}
@@ -26,13 +26,13 @@ pub record Walking (x : Cabinet) (m from : Key) (marks₀ queue₀ : List ℕ) (
   pub kept : (i : ℕ) → i < tail → getD queue i 0 ≡ getD queue₀ i 0
   pub longer : tail ≤ end
   pub here : (link ≡ 0) ⊎ InDrawer x (drawer from) link
-  pub low : link < node-limit
+  pub low : link < suc node-limit
   pub done : Done x m from marks link
 
 module _ (x : Cabinet) (F : Filed x) (m from : Key) where
-  pub set-out : {marks queue : List ℕ} {tail : ℕ} → Reached x m marks queue tail → (link : ℕ) → link ≡ getD (x .first) (drawer from) 0 → Walking x m from marks queue tail marks queue link tail
+  pub set-out : {marks queue : List ℕ} {tail : ℕ} → Reached x m marks queue tail → (link : ℕ) → link ≡ getD (x .latest) (drawer from) 0 → Walking x m from marks queue tail marks queue link tail
   set-out R link e =
-      let L = F .first (drawer from) (omega arith) in
+      let L = F .latest (drawer from) (omega arith) in
       rw e (record {
         reached = R;
         grown = λ k z. z;
@@ -59,23 +59,26 @@ module _ (x : Cabinet) (F : Filed x) (m from : Key) where
 
     -- one link more
     pub step : 0 < link → From x m from → ((i : ℕ) → getD (x .lower) i 0 < 65536) → (marks′ queue′ : List ℕ) (r : ℕ)
-        → Meets (getD (x .upper) link 0) (getD (x .lower) link 0) from m marks queue end marks′ queue′ r → (next : ℕ) → next ≡ getD (x .next) link 0
+        → Meets (getD (x .upper) link 0) (getD (x .lower) link 0) from m marks queue end marks′ queue′ r → (next : ℕ) → next ≡ getD (x .older) link 0
         → (next < link) × Walking x m from marks₀ queue₀ tail marks′ queue′ next r
-    step h w small marks′ queue′ r M next e = (rw e (L .before), record {
-      reached = K .reached;
-      grown = λ k z. K .grown k (W .grown k z);
-      kept = λ i g. K .kept i (omega (arith, W .longer)) ∙ W .kept i g;
-      longer = omega (arith, W .longer, K .longer);
-      here = rw e (⊎-elim inl (λ z. inr (z .0, z .1 ∙ in-here .1)) (L .there));
-      low = omega (arith, L .before, W .low);
-      done = λ i g p q. pick i g p q (ℕ-discrete i link) (decLt link i);
-    })
+    step h w small marks′ queue′ r M next e = (
+      rw e (L .before),
+      record {
+        reached = K .reached;
+        grown = λ k z. K .grown k (W .grown k z);
+        kept = λ i g. K .kept i (omega (arith, W .longer)) ∙ W .kept i g;
+        longer = omega (arith, W .longer, K .longer);
+        here = rw e (⊎-elim inl (λ z. inr (z .0, z .1 ∙ in-here .1)) (L .there));
+        low = omega (arith, L .before, W .low);
+        done = λ i g p q. pick i g p q (ℕ-discrete i link) (decLt link i);
+      },
+    )
       where
         in-here : InDrawer x (drawer from) link
         in-here = ⊎-elim (never h) (λ z. z) (W .here)
 
-        L : Latest x (drawer (getD (x .upper) link 0)) link (getD (x .next) link 0)
-        L = F .next link (in-here .0)
+        L : Latest x (drawer (getD (x .upper) link 0)) link (getD (x .older) link 0)
+        L = F .older link (in-here .0)
 
         K : Looked x m from w (getD (x .upper) link 0) (getD (x .lower) link 0) (small link) link (in-here .0) refl refl marks queue end marks′ queue′ r
         K = looked x m from w (getD (x .upper) link 0) (getD (x .lower) link 0) (small link) link (in-here .0) refl refl room (W .reached) M

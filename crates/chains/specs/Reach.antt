@@ -3,7 +3,7 @@ use mathlib.Core.Path.{_≡_}
 use mathlib.Core.Logic.{_⊎_, _≢_, _↔_}
 use mathlib.Core.List.{List}
 use mathlib.Core.Bool.{true}
-use Prim.Native.Nat.{ℕ, _+_, _≤_, _<_}
+use Prim.Native.Nat.{ℕ, suc, _+_, _≤_, _<_}
 use lib.ListN.{length, getD, set}
 use Rattle.ccsk.specs.Numbers.{In, distinct}
 use Rattle.ccsk.specs.Term.{Key}
@@ -28,7 +28,7 @@ pub record Reached (x : Cabinet) (m : Key) (marks queue : List ℕ) (tail : ℕ)
   pub led : (k : Key) → In k keys → (k ≢ m) × Chain (Link x) m k
   pub found : (k : Key) → In k keys → (i : ℕ) × (i < tail) × (getD queue i 0 ≡ k)
   pub queued : (i : ℕ) → i < tail → In (getD queue i 0) keys
-  pub sized : length queue ≡ node-limit
+  pub sized : length queue ≡ suc node-limit
 
 -- m itself, or a key that a chain leads to from m
 abbrev pub From : Cabinet → Key → Key → Type 0

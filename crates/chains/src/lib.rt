@@ -5,7 +5,7 @@ use keyset::BYTES;
 use shared::wide;
 ghost use mathlib.Core.Path.{_≡_};
 ghost use mathlib.Core.List.{[]};
-ghost use Prim.Native.Nat.{_<_};
+ghost use Prim.Native.Nat.{suc, _<_};
 ghost use lib.ListN.{length};
 ghost use Rattle.format.specs.Limits.{node-limit};
 ghost use Rattle.keys.specs.Gather.{Holds};
@@ -23,7 +23,7 @@ fn meet(
     queue: &mut [u16],
     tail: usize,
 ) -> usize
-    requires { ⌜ (length (now marks) ≡ 8192) × (tail < length (now queue)) × (length (now queue) ≡ node-limit) ⌝ }
+    requires { ⌜ (length (now marks) ≡ 8192) × (tail < length (now queue)) × (length (now queue) ≡ suc node-limit) ⌝ }
     ensures { λ r. ⌜ Meets upper lower from asked (now (marks .entry)) (now (queue .entry)) tail (now (marks .exit)) (now (queue .exit)) r ⌝ }
 {
     if upper != from {
@@ -43,22 +43,22 @@ fn follow(
     asked: u16,
     upper: &[u16],
     lower: &[u16],
-    next: &[u16],
-    first: &[u16],
+    older: &[u16],
+    latest: &[u16],
     marks: &mut [u8; BYTES],
     queue: &mut [u16],
     tail: usize,
 ) -> usize
-    requires { ⌜ Filed (cabinet (now upper) (now lower) (now next) (now first)) ⌝ }
-    requires { ⌜ Reached (cabinet (now upper) (now lower) (now next) (now first)) asked (now marks) (now queue) tail ⌝ }
-    requires { ⌜ From (cabinet (now upper) (now lower) (now next) (now first)) asked from ⌝ }
-    ensures { λ r. ⌜ Follows (cabinet (now (upper .entry)) (now (lower .entry)) (now (next .entry)) (now (first .entry))) asked from (now (marks .entry)) (now (queue .entry)) tail (now (marks .exit)) (now (queue .exit)) r ⌝ }
+    requires { ⌜ Filed (cabinet (now upper) (now lower) (now older) (now latest)) ⌝ }
+    requires { ⌜ Reached (cabinet (now upper) (now lower) (now older) (now latest)) asked (now marks) (now queue) tail ⌝ }
+    requires { ⌜ From (cabinet (now upper) (now lower) (now older) (now latest)) asked from ⌝ }
+    ensures { λ r. ⌜ Follows (cabinet (now (upper .entry)) (now (lower .entry)) (now (older .entry)) (now (latest .entry))) asked from (now (marks .entry)) (now (queue .entry)) tail (now (marks .exit)) (now (queue .exit)) r ⌝ }
 {
-    let mut link = wide(first[drawer(from)]);
+    let mut link = wide(latest[drawer(from)]);
     let mut end = tail;
     while 0 < link {
         end = meet(upper[link], lower[link], from, asked, marks, queue, end);
-        link = wide(next[link]);
+        link = wide(older[link]);
     }
     end
 }
@@ -69,20 +69,30 @@ pub fn reach(
     asked: u16,
     upper: &[u16],
     lower: &[u16],
-    next: &[u16],
-    first: &[u16],
+    older: &[u16],
+    latest: &[u16],
     marks: &mut [u8; BYTES],
     queue: &mut [u16],
 ) -> usize
-    requires { ⌜ Filed (cabinet (now upper) (now lower) (now next) (now first)) ⌝ }
+    requires { ⌜ Filed (cabinet (now upper) (now lower) (now older) (now latest)) ⌝ }
     requires { ⌜ Holds (now marks) [] ⌝ }
-    requires { ⌜ length (now queue) ≡ node-limit ⌝ }
-    ensures { λ r. ⌜ Closed (cabinet (now (upper .entry)) (now (lower .entry)) (now (next .entry)) (now (first .entry))) asked (now (marks .exit)) r ⌝ }
+    requires { ⌜ length (now queue) ≡ suc node-limit ⌝ }
+    ensures { λ r. ⌜ Closed (cabinet (now (upper .entry)) (now (lower .entry)) (now (older .entry)) (now (latest .entry))) asked (now (marks .exit)) r ⌝ }
 {
-    let mut tail = follow(asked, asked, upper, lower, next, first, marks, queue, 0);
+    let mut tail = follow(asked, asked, upper, lower, older, latest, marks, queue, 0);
     let mut head: usize = 0;
     while head < tail {
-        tail = follow(queue[head], asked, upper, lower, next, first, marks, queue, tail);
+        tail = follow(
+            queue[head],
+            asked,
+            upper,
+            lower,
+            older,
+            latest,
+            marks,
+            queue,
+            tail,
+        );
         head += 1;
     }
     tail

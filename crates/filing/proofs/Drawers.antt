@@ -1,7 +1,7 @@
 -- One link more in the cabinet: every drawer stays in order, and no other link changes.
 use mathlib.Core.Path.{_≡_, refl, sym, ap, _∙_}
 use mathlib.Core.Logic.{_⊎_, inl, inr, ⊎-elim, _≢_, _↔_}
-use Prim.Native.Nat.{ℕ, _+_, _<_, _≤_}
+use Prim.Native.Nat.{ℕ, suc, _+_, _<_, _≤_}
 use native.Mathlib.Decide.{ℕ-discrete, decLt}
 use native.Mathlib.Omega.{arith}
 use lib.ListN.{length, getD, set, replicate, length-set, length-replicate}
@@ -18,30 +18,30 @@ pub record Holding (x : Cabinet) (n : ℕ) : Type 0 where
   pub rest : (i : ℕ) → n < i → getD (x .upper) i 0 ≡ 0
 
 -- columns of zeros file nothing
-zeros : (n : ℕ) → n ≡ node-limit → Empty (cabinet (replicate n 0) (replicate n 0) (replicate n 0) (replicate n 0))
-zeros n e = record {
-  sized = record { upper = long; lower = long; next = long; first = long };
-  upper = getD-zeros n;
-  first = getD-zeros n;
+zeros : (n : ℕ) → n ≡ node-limit → (m : ℕ) → m ≡ suc node-limit → Empty (cabinet (replicate m 0) (replicate m 0) (replicate m 0) (replicate n 0))
+zeros n e m f = record {
+  sized = record { upper = long m ∙ f; lower = long m ∙ f; older = long m ∙ f; latest = long n ∙ e };
+  upper = getD-zeros m;
+  latest = getD-zeros n;
 }
   where
-    long : length {A = ℕ} (replicate n 0) ≡ node-limit
-    long = length-replicate {A = ℕ} n 0 ∙ e
+    long : (i : ℕ) → length {A = ℕ} (replicate i 0) ≡ i
+    long i = length-replicate {A = ℕ} i 0
 
-pub empty : Empty (cabinet (replicate 4096 0) (replicate 4096 0) (replicate 4096 0) (replicate 4096 0))
-empty = zeros 4096 refl
+pub empty : Empty (cabinet (replicate 4097 0) (replicate 4097 0) (replicate 4097 0) (replicate 4096 0))
+empty = zeros 4096 refl 4097 refl
 
 pub holding-none : (x : Cabinet) → Empty x → Holding x 0
 holding-none x E = record {
   filed = record {
     sized = E .sized;
     zero = E .upper 0;
-    first = λ b h. record {
-      there = inl (E .first b);
-      before = omega (arith, E .first b);
+    latest = λ b h. record {
+      there = inl (E .latest b);
+      before = omega (arith, E .latest b);
       none = λ i g k z. never (z .0) (E .upper i);
     };
-    next = λ i p. never p (E .upper i);
+    older = λ i p. never p (E .upper i);
   };
   rest = λ i h. E .upper i;
 }
@@ -50,9 +50,9 @@ holding-none x E = record {
 pub link-none : (x : Cabinet) → Empty x → (m k : Key) → ¬ Link x m k
 link-none x E m k l = never (l .1) (sym (l .2) ∙ E .upper (l .0))
 
-module _ (x : Cabinet) (n : ℕ) (u k : Key) (H : Holding x n) (g : n + 1 < node-limit) (p : 0 < u) where
+module _ (x : Cabinet) (n : ℕ) (u k : Key) (H : Holding x n) (g : n < node-limit) (p : 0 < u) where
   abbrev after : Cabinet
-  after = cabinet (set (x .upper) (n + 1) u) (set (x .lower) (n + 1) k) (set (x .next) (n + 1) (getD (x .first) (drawer u) 0)) (set (x .first) (drawer u) (n + 1))
+  after = cabinet (set (x .upper) (n + 1) u) (set (x .lower) (n + 1) k) (set (x .older) (n + 1) (getD (x .latest) (drawer u) 0)) (set (x .latest) (drawer u) (n + 1))
 
   size : Sized x
   size = H .filed .sized
@@ -94,17 +94,17 @@ module _ (x : Cabinet) (n : ℕ) (u k : Key) (H : Holding x n) (g : n + 1 < node
   below-limit = omega arith
 
   -- the new link is the latest of its drawer
-  newest : Latest after (drawer u) node-limit (n + 1)
+  newest : Latest after (drawer u) (suc node-limit) (n + 1)
   newest = record {
     there = inr (rw upper-new (p, refl));
-    before = g;
+    before = omega (arith, g);
     none = λ i q r z. never (z .0) (upper-old i (λ e. omega arith) ∙ H .rest i (omega arith));
   }
 
   -- and before it stands what was the latest
-  one-before : Latest after (drawer u) (n + 1) (getD (x .first) (drawer u) 0)
+  one-before : Latest after (drawer u) (n + 1) (getD (x .latest) (drawer u) 0)
   one-before =
-      let L = H .filed .first (drawer u) below-limit in
+      let L = H .filed .latest (drawer u) below-limit in
       record {
         there = ⊎-elim inl (λ z. inr (stays (drawer u) _ z)) (L .there);
         before = ⊎-elim (λ e. omega arith) (λ z. few _ (z .0)) (L .there);
@@ -114,24 +114,24 @@ module _ (x : Cabinet) (n : ℕ) (u k : Key) (H : Holding x n) (g : n + 1 < node
   pub holding-more : Holding after (n + 1)
   holding-more = record {
     filed = record {
-      sized = record { upper = rw length-set (size .upper); lower = rw length-set (size .lower); next = rw length-set (size .next); first = rw length-set (size .first) };
+      sized = record { upper = rw length-set (size .upper); lower = rw length-set (size .lower); older = rw length-set (size .older); latest = rw length-set (size .latest) };
       zero = upper-old 0 (λ e. omega arith) ∙ H .filed .zero;
-      first = λ b h. drawers b h (ℕ-discrete b (drawer u));
-      next = λ i q. links i q (ℕ-discrete i (n + 1));
+      latest = λ b h. drawers b h (ℕ-discrete b (drawer u));
+      older = λ i q. links i q (ℕ-discrete i (n + 1));
     };
     rest = λ i h. upper-old i (λ e. omega arith) ∙ H .rest i (omega arith);
   }
     where
-      drawers : (b : ℕ) → b < node-limit → Dec (b ≡ drawer u) → Latest after b node-limit (getD (after .first) b 0)
-      drawers b h (yes e) = rw (e, getD-set-same (x .first) (drawer u) (n + 1) 0 (omega (arith, size .first))) newest
-      drawers b h (no e) = rw (getD-set-other (x .first) (drawer u) b (n + 1) 0 e) (kept b node-limit _ (inr e) (H .filed .first b h))
+      drawers : (b : ℕ) → b < node-limit → Dec (b ≡ drawer u) → Latest after b (suc node-limit) (getD (after .latest) b 0)
+      drawers b h (yes e) = rw (e, getD-set-same (x .latest) (drawer u) (n + 1) 0 (omega (arith, size .latest))) newest
+      drawers b h (no e) = rw (getD-set-other (x .latest) (drawer u) b (n + 1) 0 e) (kept b (suc node-limit) _ (inr e) (H .filed .latest b h))
 
-      links : (i : ℕ) → 0 < getD (after .upper) i 0 → Dec (i ≡ n + 1) → Latest after (drawer (getD (after .upper) i 0)) i (getD (after .next) i 0)
-      links i q (yes e) = rw (e, upper-new, getD-set-same (x .next) (n + 1) (getD (x .first) (drawer u) 0) 0 (omega (arith, size .next))) one-before
+      links : (i : ℕ) → 0 < getD (after .upper) i 0 → Dec (i ≡ n + 1) → Latest after (drawer (getD (after .upper) i 0)) i (getD (after .older) i 0)
+      links i q (yes e) = rw (e, upper-new, getD-set-same (x .older) (n + 1) (getD (x .latest) (drawer u) 0) 0 (omega (arith, size .older))) one-before
       links i q (no e) =
           let r : 0 < getD (x .upper) i 0 = rw (upper-old i e) at q in
-          rw (upper-old i e, getD-set-other (x .next) (n + 1) i (getD (x .first) (drawer u) 0) 0 e)
-            (kept (drawer (getD (x .upper) i 0)) i _ (inl (omega (arith, few i r))) (H .filed .next i r))
+          rw (upper-old i e, getD-set-other (x .older) (n + 1) i (getD (x .latest) (drawer u) 0) 0 e)
+          (kept (drawer (getD (x .upper) i 0)) i _ (inl (omega (arith, few i r))) (H .filed .older i r))
 
   -- the links are the old ones and the new one
   pub link-more : (m j : Key) → Link after m j ↔ (Link x m j ⊎ ((m ≡ u) × (j ≡ k)))
@@ -151,14 +151,14 @@ module _ (x : Cabinet) (n : ℕ) (u k : Key) (H : Holding x n) (g : n + 1 < node
       back (inr z) = (n + 1, rw (z .0) p, upper-new ∙ sym (z .0), lower-new ∙ sym (z .1))
 
 -- filing at a node that holds k, below u
-pub holding-filed : {x y : Cabinet} {n r : ℕ} {u k : Key} → Files n u k x y r → Holding x n → (0 < k → n + 1 < node-limit) → Holding y r
+pub holding-filed : {x y : Cabinet} {n r : ℕ} {u k : Key} → Files n u k x y r → Holding x n → n < node-limit → Holding y r
 holding-filed (none z) H g = H
-holding-filed {x} {n = n} {u = u} {k = k} (one p q) H g = holding-more x n u k H (g q) p
+holding-filed {x} {n = n} {u = u} {k = k} (one p q) H g = holding-more x n u k H g p
 
-pub link-filed : {x y : Cabinet} {n r : ℕ} {u k : Key} → Files n u k x y r → Holding x n → (0 < k → n + 1 < node-limit)
+pub link-filed : {x y : Cabinet} {n r : ℕ} {u k : Key} → Files n u k x y r → Holding x n → n < node-limit
     → (m j : Key) → Link y m j ↔ (Link x m j ⊎ ((0 < u) × (0 < k) × (m ≡ u) × (j ≡ k)))
 link-filed (none z) H g m j = (inl, λ l. ⊎-elim (λ i. i) (λ i. ⊎-elim (never (i .0)) (never (i .1)) z) l)
-link-filed {x} {n = n} {u = u} {k = k} (one p q) H g m j = let w = link-more x n u k H (g q) p m j in
+link-filed {x} {n = n} {u = u} {k = k} (one p q) H g m j = let w = link-more x n u k H g p m j in
     (λ l. ⊎-elim inl (λ i. inr (p, q, i .0, i .1)) (w .0 l), λ l. w .1 (⊎-elim inl (λ i. inr (i .2, i .3)) l))
 
 -- at most one link more

@@ -1,129 +1,181 @@
 -- Going through a record from node to node and filing its links.
-use mathlib.Core.Path.{_≡_, refl, sym, ap, subst, _∙_}
+use mathlib.Core.Path.{_≡_, refl, ap, subst, _∙_}
 use mathlib.Core.Logic.{_⊎_, inl, inr, ⊎-elim, _↔_}
 use mathlib.Core.List.{List, [], _∷_}
+use mathlib.Core.Bool.{Bool, false}
 use Prim.Native.Nat.{ℕ, suc, _+_, _-_, _≤_, _<_}
 use native.Mathlib.Omega.{arith}
-use lib.ListN.{length, getD, replicate, length-drop, length-replicate}
-use Rattle.ccsk.specs.Term.{Term, Key, size}
+use lib.ListN.{length, getD, replicate, length-replicate}
+use Rattle.ccsk.specs.Term.{Term, Key}
 use Rattle.ccsk.proofs.Lists.{getD-zeros}
 use Rattle.causes.specs.Nearest.{RightAbove}
 use Rattle.format.specs.Limits.{node-limit, depth-limit}
-use Rattle.format.specs.Flat.{encodes, after, headKind, headKey, Due, keyAt}
+use Rattle.format.specs.Flat.{after, headKind, headKey, Due, keyAt}
+use Rattle.format.specs.Encode.{Bytes}
 use Rattle.format.specs.Kinds.{bodyLength, childCount}
-use Rattle.format.proofs.Flat.{key-here, kind-here, ends-within, due-after, children-due, none-due, all-due}
-use Rattle.reader.specs.Due.{stacked, push}
-use Rattle.reader.proofs.Stack.{stacked-length, stacked-top}
+use Rattle.format.proofs.Flat.{key-here, kind-here, due-after, children-due, all-due}
+use Rattle.reader.specs.Head.{NodeAt}
+use Rattle.reader.specs.Due.{stacked, push, Remains, Passed}
+use Rattle.reader.proofs.Stack.{stacked-top}
+use Rattle.reader.proofs.Due.{at-start, no-more-bytes, children-most}
+use Rattle.shared.specs.declared.Number.the-variants.{Is}
 use Rattle.keys.specs.Gather.{RecordOf, Readable}
+use Rattle.keys.proofs.Reading.{was-read}
 use Rattle.filing.specs.Cabinet.{Cabinet, Empty, Link, Files}
-use Rattle.filing.specs.Record.{below, Pushed, AllFiled}
+use Rattle.filing.specs.Record.{below, Pushed, MetBy, AllFiled, Stands}
 use Rattle.filing.proofs.Drawers.{Holding, holding-none, link-none, holding-filed, link-filed, filed-few}
-use Rattle.filing.proofs.Terms.{LinksOf, HeadLink, links-after, links-none, push-length, sizes, sizes-after, sizes-key, Stairs, stairs-after, stairs-few}
+use Rattle.filing.proofs.Terms.{LinksOf, HeadLink, links-after, links-none}
+use Rattle.filing.proofs.Standing as standing
+use Rattle.filing.proofs.Standing.{Meeting}
 
--- Up to the place `at` of the record s the links were filed, n of them. The stack has a key for each term that is due, the one right above it.
-pub record Filling (s : List ℕ) (x : Cabinet) (ups : List ℕ) (many at n : ℕ) : Type 0 where
+-- Up to the place `at` of the record s its links were filed. The stack has a key for each term that is due, the one right above it.
+pub record Filling (s : List ℕ) (x : Cabinet) (ups : List ℕ) (many at : ℕ) : Type 0 where
   pub of : Term
   pub whole : RecordOf s of
   pub terms : List Term
   pub due : Due s at terms
   pub tall : many ≡ length terms
-  pub deep : Stairs terms
-  pub room : n + sizes terms ≤ node-limit
-  pub holding : Holding x n
   pub exact : (m k : Key) → RightAbove 0 of m k ↔ (Link x m k ⊎ LinksOf (stacked many ups) terms m k)
-  pub long : length ups ≡ suc depth-limit
-  pub reach : at ≤ length s
 
-pub start : (s : List ℕ) (x : Cabinet) → Readable s → Empty x → Filling s x (replicate 257 0) 1 0 0
-unfolding sizes
-start s x R E = record {
+filling-none : (s : List ℕ) (x : Cabinet) → Empty x → Readable s → Filling s x (replicate 257 0) 1 0
+filling-none s x E R = record {
   of = R .0;
   whole = R .1;
   terms = R .0 ∷ [];
   due = all-due s (R .0) (R .1 .bytes);
   tall = refl;
-  deep = (omega (arith, R .1 .fits .deep), tt);
-  room = omega (arith, R .1 .fits .nodes);
-  holding = holding-none x E;
   exact = λ m k. rw (getD-zeros 257 0) (λ i. inr (inl i), λ i. ⊎-elim (λ l. absurd (link-none x E m k l)) (λ l. ⊎-elim (λ z. z) (λ z. absurd z) l) i);
-  long = length-replicate {A = ℕ} 257 0;
-  reach = omega arith;
 }
 
-module _ (s : List ℕ) (x : Cabinet) (ups : List ℕ) (many at n : ℕ) (P : Filling s x ups many at n) where
-  -- the stack is never full
+-- no term is due any more
+filling-all : (s : List ℕ) (x : Cabinet) (ups : List ℕ) (many at n : ℕ) → many ≡ 0 → Holding x n → Filling s x ups many at → AllFiled s x
+filling-all s x ups many at n z H P = (
+  H .filed,
+  (
+    P .of,
+    P .whole,
+    λ m k. let w = P .exact m k in
+        (λ l. w .1 (inl l), λ i. ⊎-elim (λ l. l) (λ l. absurd (links-none (stacked many ups) m k (subst (λ (ts : List Term). LinksOf (stacked many ups) ts m k) (none (P .terms) (P .tall)) l))) (w .0 i)),
+  ),
+)
+  where
+    none : (ts : List Term) → many ≡ length ts → ts ≡ []
+    none [] e = refl
+    none (t ∷ ts) e = absurd (omega arith)
+
+-- one node more, which holds the key k, below the key u
+module _ (s : List ℕ) (x : Cabinet) (ups : List ℕ) (many at n : ℕ) (h : at < length s) (g : 0 < many) (H : Holding x n) (f : n < node-limit) (k : Key) (q : k ≡ keyAt s at)
+    (u : Key) (e : u ≡ getD ups (many - 1) 0) (y : Cabinet) (r : ℕ) (F : Files n u k x y r) (b : ℕ) (d : b ≡ getD s at 0) (ups′ : List ℕ) (many′ : ℕ)
+    (G : Pushed ups many (below u k) (childCount b) ups′ many′) (P : Filling s x ups many at) where
+  kind : b ≡ headKind (P .terms)
+  kind = d ∙ kind-here s at (P .terms) (P .due) h
+
+  key : k ≡ headKey (P .terms)
+  key = q ∙ key-here s at (P .terms) (P .due) h
+
+  some-due : 0 < length (P .terms)
+  some-due = omega (arith, P .tall)
+
+  top : stacked many ups ≡ u ∷ stacked (many - 1) ups
+  top = rw e (stacked-top many ups g)
+
+  stack : stacked many′ ups′ ≡ push (childCount b) (below u k) (stacked (many - 1) ups)
+  stack = G .stack u (stacked (many - 1) ups) top
+
+  -- the first node's link is filed, and those below it are due
+  links-on : (m j : Key) → RightAbove 0 (P .of) m j ↔ (Link y m j ⊎ LinksOf (stacked many′ ups′) (after (P .terms)) m j)
+  links-on m j = rw (stack, kind, key) (λ i. there (w .0 i), λ i. w .1 (back i))
+    where
+      w : RightAbove 0 (P .of) m j ↔ (Link x m j ⊎ LinksOf (u ∷ stacked (many - 1) ups) (P .terms) m j)
+      w = rw top at (P .exact m j)
+
+      l : Link y m j ↔ (Link x m j ⊎ HeadLink u (P .terms) m j)
+      l = rw key at (link-filed F H f m j)
+
+      c : LinksOf (u ∷ stacked (many - 1) ups) (P .terms) m j
+          ↔ (HeadLink u (P .terms) m j ⊎ LinksOf (push (childCount (headKind (P .terms))) (below u (headKey (P .terms))) (stacked (many - 1) ups)) (after (P .terms)) m j)
+      c = links-after u (stacked (many - 1) ups) (P .terms) some-due m j
+
+      there : Link x m j ⊎ LinksOf (u ∷ stacked (many - 1) ups) (P .terms) m j
+          → Link y m j ⊎ LinksOf (push (childCount (headKind (P .terms))) (below u (headKey (P .terms))) (stacked (many - 1) ups)) (after (P .terms)) m j
+      there (inl i) = inl (l .1 (inl i))
+      there (inr i) = ⊎-elim (λ z. inl (l .1 (inr z))) inr (c .0 i)
+
+      back : Link y m j ⊎ LinksOf (push (childCount (headKind (P .terms))) (below u (headKey (P .terms))) (stacked (many - 1) ups)) (after (P .terms)) m j
+          → Link x m j ⊎ LinksOf (u ∷ stacked (many - 1) ups) (P .terms) m j
+      back (inl i) = ⊎-elim inl (λ z. inr (c .1 (inl z))) (l .0 i)
+      back (inr i) = inr (c .1 (inr i))
+
+  filling-more : Filling s y ups′ many′ (at + (1 + bodyLength b))
+  filling-more = record {
+    of = P .of;
+    whole = P .whole;
+    terms = after (P .terms);
+    due = due-after s at (P .terms) (P .due) h b d;
+    tall = omega (arith, G .high, P .tall, g, children-due (P .terms) some-due, ap childCount kind);
+    exact = links-on;
+  }
+
+-- Up to the place `at` the bytes s were read and links were filed, n of them. If s is a record, they are its links, and it is known whether m was met.
+pub record Passing (s : List ℕ) (m : Key) (x : Cabinet) (due ups : List ℕ) (many left at n : ℕ) (met : Bool) : Type 0 where
+  pub remains : Remains s due many left at
+  pub holding : Holding x n
+  pub room : n + left ≤ node-limit
+  pub long : length ups ≡ suc depth-limit
+  pub filling : Readable s → Filling s x ups many at × Meeting s m at met
+
+pub start : (s : List ℕ) (m : Key) (x : Cabinet) (due : List ℕ) → length due ≡ suc depth-limit → getD due 0 0 ≡ depth-limit → Empty x
+    → Passing s m x due (replicate 257 0) 1 node-limit 0 0 false
+start s m x due l d E = record {
+  remains = at-start s due l d;
+  holding = holding-none x E;
+  room = omega arith;
+  long = length-replicate {A = ℕ} 257 0;
+  filling = λ R. (filling-none s x E R, standing.start s m R);
+}
+
+-- a prefix's key ends within the record
+pub key-within : {s : List ℕ} {at kind children next : ℕ} → NodeAt s at kind children next → getD s at 0 ≡ 1 → at + 3 < length s
+key-within {kind = kind} N e = let z : bodyLength kind ≡ 3 = ap bodyLength (N .byte ∙ e) in omega (arith, N .ends, N .within, z)
+
+-- the next node is passed
+module _ (s : List ℕ) (m : Key) (x : Cabinet) (due ups : List ℕ) (many left at n : ℕ) (met : Bool) (P : Passing s m x due ups many left at n met) (g : 0 < many)
+    (kind children next : ℕ) (due′ : List ℕ) (N : Passed s at left many kind children next due′) where
   pub stack-room : many < length ups
-  stack-room = omega (arith, P .long, P .tall, stairs-few (P .terms) (P .deep))
+  stack-room = omega (arith, P .long, N .deep)
 
-  pub all-filed : length s ≤ at → AllFiled s x
-  all-filed h = (P .holding .filed, (P .of, P .whole, λ m k. let w = P .exact m k in
-      (λ l. w .1 (inl l), λ i. ⊎-elim (λ l. l) (λ l. absurd (links-none (stacked many ups) m k (subst (λ (ts : List Term). LinksOf (stacked many ups) ts m k) (none-due s at (P .terms) h (P .due)) l))) (w .0 i))))
+  pub children-few : children ≤ 2
+  children-few = omega (arith, N .good .count, children-most kind (N .good .known))
 
-  module _ (h : at < length s) where
-    some-due : 0 < length (P .terms)
-    unfolding encodes
-    some-due = pick (P .terms) (P .due)
-      where
-        pick : (ts : List Term) → Due s at ts → 0 < length ts
-        pick [] e = absurd (omega (arith, length-drop at s, ap length e))
-        pick (t ∷ ts) e = omega arith
+  pub link-room : n < node-limit
+  link-room = omega (arith, P .room, N .nodes)
 
-    pub stack-some : 0 < many
-    stack-some = omega (arith, P .tall, some-due)
+  pub onward : 0 < m → (k : Key) → k ≡ keyAt s at → (u : Key) → u ≡ getD ups (many - 1) 0 → (y : Cabinet) (r : ℕ) → Files n u k x y r → (met′ : Bool) → MetBy met k m met′
+      → (v : Key) → v ≡ below u k → (ups′ : List ℕ) (many′ : ℕ) → Pushed ups many v children ups′ many′ → Passing s m y due′ ups′ many′ (left - 1) next r met′
+  onward p k q u e y r F met′ M v z ups′ many′ G = record {
+    remains = rw (G .high) (N .remains);
+    holding = holding-filed F (P .holding) link-room;
+    room = omega (arith, P .room, N .nodes, filed-few F);
+    long = G .long ∙ P .long;
+    filling = λ R. let w = P .filling R in subst (λ (i : ℕ). Filling s y ups′ many′ i × Meeting s m i met′) ends (
+      filling-more s x ups many at n (N .inside) g (P .holding) link-room k q u e y r F kind (N .good .byte) ups′ many′ pushed (w .0),
+      standing.onward s m at met (w .1) (N .inside) p k q met′ M kind (N .good .byte),
+    );
+  }
+    where
+      ends : at + (1 + bodyLength kind) ≡ next
+      ends = omega (arith, N .good .ends)
 
-    -- where a key stands there is room for its link
-    pub link-room : (k : Key) → k ≡ keyAt s at → 0 < k → n + 1 < node-limit
-    link-room k q p = omega (arith, P .room, sizes-key (P .terms) (rw (q ∙ key-here s at (P .terms) (P .due) h) at p))
+      pushed : Pushed ups many (below u k) (childCount kind) ups′ many′
+      pushed = rw (← z, ← N .good .count) G
 
-    pub onward : (k : Key) → k ≡ keyAt s at → (u : Key) → u ≡ getD ups (many - 1) 0 → (y : Cabinet) (r : ℕ) → Files n u k x y r → (b : ℕ) → b ≡ getD s at 0
-        → (v : Key) → v ≡ below u k → (ups′ : List ℕ) (many′ : ℕ) → Pushed ups many v (childCount b) ups′ many′
-        → Filling s y ups′ many′ (at + (1 + bodyLength b)) r
-    onward k q u e y r F b f v z ups′ many′ G = record {
-      of = P .of;
-      whole = P .whole;
-      terms = after (P .terms);
-      due = due-after s at (P .terms) (P .due) h b f;
-      tall = omega (arith, stacked-length many′ ups′, ap length stack, push-length (childCount b) v (stacked (many - 1) ups), stacked-length (many - 1) ups, P .tall, stack-some, children-due (P .terms) some-due, ap childCount kind);
-      deep = stairs-after (P .terms) (P .deep);
-      room = omega (arith, P .room, sizes-after (P .terms) some-due, filed-few F);
-      holding = holding-filed F (P .holding) (link-room k q);
-      exact = exact;
-      long = G .long ∙ P .long;
-      reach = ends-within s at (P .terms) (P .due) h b f;
-    }
-      where
-        kind : b ≡ headKind (P .terms)
-        kind = f ∙ kind-here s at (P .terms) (P .due) h
+-- everything was read
+module _ (s : List ℕ) (m : Key) (x : Cabinet) (due ups : List ℕ) (many left at n : ℕ) (met : Bool) (P : Passing s m x due ups many left at n met) (z : many ≡ 0) (h : length s ≤ at) (B : Bytes s) where
+  readable : Readable s
+  readable = was-read s (Is (node-limit - left)) (no-more-bytes s due many left at (P .remains) z B h) B (node-limit - left) refl
 
-        key : k ≡ headKey (P .terms)
-        key = q ∙ key-here s at (P .terms) (P .due) h
+  pub told : 0 < m → Stands s m met
+  told p = standing.stands s m at met (P .filling readable .1) h p
 
-        top : stacked many ups ≡ u ∷ stacked (many - 1) ups
-        top = rw e (stacked-top many ups stack-some)
-
-        stack : stacked many′ ups′ ≡ push (childCount b) v (stacked (many - 1) ups)
-        stack = G .stack u (stacked (many - 1) ups) top
-
-        -- the first node's link is filed, and those below it are due
-        exact : (m j : Key) → RightAbove 0 (P .of) m j ↔ (Link y m j ⊎ LinksOf (stacked many′ ups′) (after (P .terms)) m j)
-        exact m j = rw (stack, kind, z, key) (λ i. there (w .0 i), λ i. w .1 (back i))
-          where
-            w : RightAbove 0 (P .of) m j ↔ (Link x m j ⊎ LinksOf (u ∷ stacked (many - 1) ups) (P .terms) m j)
-            w = rw top at (P .exact m j)
-
-            g : Link y m j ↔ (Link x m j ⊎ HeadLink u (P .terms) m j)
-            g = rw key at (link-filed F (P .holding) (link-room k q) m j)
-
-            d : LinksOf (u ∷ stacked (many - 1) ups) (P .terms) m j
-                ↔ (HeadLink u (P .terms) m j ⊎ LinksOf (push (childCount (headKind (P .terms))) (below u (headKey (P .terms))) (stacked (many - 1) ups)) (after (P .terms)) m j)
-            d = links-after u (stacked (many - 1) ups) (P .terms) some-due m j
-
-            there : Link x m j ⊎ LinksOf (u ∷ stacked (many - 1) ups) (P .terms) m j
-                → Link y m j ⊎ LinksOf (push (childCount (headKind (P .terms))) (below u (headKey (P .terms))) (stacked (many - 1) ups)) (after (P .terms)) m j
-            there (inl i) = inl (g .1 (inl i))
-            there (inr i) = ⊎-elim (λ c. inl (g .1 (inr c))) inr (d .0 i)
-
-            back : Link y m j ⊎ LinksOf (push (childCount (headKind (P .terms))) (below u (headKey (P .terms))) (stacked (many - 1) ups)) (after (P .terms)) m j
-                → Link x m j ⊎ LinksOf (u ∷ stacked (many - 1) ups) (P .terms) m j
-            back (inl i) = ⊎-elim inl (λ c. inr (d .1 (inl c))) (g .0 i)
-            back (inr i) = inr (d .1 (inr i))
+  pub all-filed : AllFiled s x
+  all-filed = filling-all s x ups many at n z (P .holding) (P .filling readable .0)

@@ -1,16 +1,13 @@
--- The terms that are due in a record, each below a key: their links, how many nodes they have, how deep they are, and all of that after
--- their first node.
+-- The terms that are due in a record, each below a key, and their links: those of the first node, and those of what is due after it.
 use mathlib.Core.Path.{_≡_, refl}
 use mathlib.Core.Logic.{_⊎_, inl, inr, ⊎-elim, _↔_}
 use mathlib.Core.List.{List, [], _∷_}
-use Prim.Native.Nat.{ℕ, zero, suc, _+_, _≤_, _<_}
+use Prim.Native.Nat.{ℕ, zero, suc, _+_, _<_}
 use native.Mathlib.Omega.{arith}
 use lib.ListN.{length}
-use Rattle.ccsk.specs.Term.{Term, Key, nil, pre, cho, par, res, size}
+use Rattle.ccsk.specs.Term.{Term, Key, nil, pre, cho, par, res}
 use Rattle.ccsk.proofs.Basic.{never}
 use Rattle.causes.specs.Nearest.{RightAbove}
-use Rattle.format.specs.Limits.{depth-limit}
-use Rattle.format.specs.Encode.{depth}
 use Rattle.format.specs.Flat.{after, headKind, headKey}
 use Rattle.format.specs.Kinds.{childCount}
 use Rattle.reader.specs.Due.{push}
@@ -33,8 +30,10 @@ HeadLink u ts m n = (0 < u) × (0 < headKey ts) × (m ≡ u) × (n ≡ headKey t
 
 -- two sides and a rest, where there is no link to the first node
 two-sides : {A B C D : Type 0} → ¬ A → ((B ⊎ C) ⊎ D) ↔ (A ⊎ (B ⊎ (C ⊎ D)))
-two-sides f = (λ l. ⊎-elim (λ z. ⊎-elim (λ y. inr (inl y)) (λ y. inr (inr (inl y))) z) (λ z. inr (inr (inr z))) l,
-    λ l. ⊎-elim (λ z. absurd (f z)) (λ z. ⊎-elim (λ y. inl (inl y)) (λ y. ⊎-elim (λ x. inl (inr x)) inr y) z) l)
+two-sides f = (
+  λ l. ⊎-elim (λ z. ⊎-elim (λ y. inr (inl y)) (λ y. inr (inr (inl y))) z) (λ z. inr (inr (inr z))) l,
+  λ l. ⊎-elim (λ z. absurd (f z)) (λ z. ⊎-elim (λ y. inl (inl y)) (λ y. ⊎-elim (λ x. inl (inr x)) inr y) z) l,
+)
 
 -- the first node has its link, and what stands below it has the others
 pub links-after : (u : Key) (us : List Key) (ts : List Term) → 0 < length ts → (m n : Key)
@@ -58,72 +57,7 @@ links-after u us (cho t r ∷ ts) h m n = two-sides (λ z. never (z .1) refl)
 links-after u us (par t r ∷ ts) h m n = two-sides (λ z. never (z .1) refl)
 links-after u us (res a t ∷ ts) h m n = (inr, λ l. ⊎-elim (λ z. never (z .1) refl) (λ z. z) l)
 
--- as many keys as terms
-pub push-length : (c : ℕ) (v : Key) (us : List Key) → length (push c v us) ≡ c + length us
-unfolding push
-push-length zero v us = omega arith
-push-length (suc c) v us = omega (arith, push-length c v us)
-
 -- where no term is due there is no link
 pub links-none : (us : List Key) (m n : Key) → ¬ LinksOf us [] m n
 links-none [] m n l = l
 links-none (u ∷ us) m n l = l
-
--- how many nodes the terms have
-unfoldable pub sizes : List Term → ℕ
-sizes [] = 0
-sizes (t ∷ ts) = size t + sizes ts
-
-size-some : (t : Term) → 0 < size t
-unfolding size
-size-some nil = omega arith
-size-some (pre a k t) = omega arith
-size-some (cho t u) = omega arith
-size-some (par t u) = omega arith
-size-some (res a t) = omega arith
-
--- one node less; and a node that holds a key has another one below it
-pub sizes-after : (ts : List Term) → 0 < length ts → sizes ts ≡ suc (sizes (after ts))
-unfolding sizes after size
-sizes-after [] h = absurd (omega arith)
-sizes-after (nil ∷ ts) h = omega arith
-sizes-after (pre a k t ∷ ts) h = omega arith
-sizes-after (cho t u ∷ ts) h = omega arith
-sizes-after (par t u ∷ ts) h = omega arith
-sizes-after (res a t ∷ ts) h = omega arith
-
-pub sizes-key : (ts : List Term) → 0 < headKey ts → 2 ≤ sizes ts
-unfolding sizes headKey size
-sizes-key [] h = absurd (omega arith)
-sizes-key (nil ∷ ts) h = absurd (omega arith)
-sizes-key (pre a k t ∷ ts) h = omega (arith, size-some t)
-sizes-key (cho t u ∷ ts) h = absurd (omega arith)
-sizes-key (par t u ∷ ts) h = absurd (omega arith)
-sizes-key (res a t ∷ ts) h = absurd (omega arith)
-
--- each term leaves a level for each term that is due after it
-abbrev pub Stairs : List Term → Type 0
-Stairs [] = Unit {0}
-Stairs (t ∷ ts) = (depth t + length ts ≤ depth-limit) × Stairs ts
-
-pub stairs-after : (ts : List Term) → Stairs ts → Stairs (after ts)
-unfolding after depth
-stairs-after [] d = tt
-stairs-after (nil ∷ ts) d = d .1
-stairs-after (pre a k t ∷ ts) d = (omega (arith, d .0), d .1)
-stairs-after (cho t u ∷ ts) d = (omega (arith, d .0), (omega (arith, d .0), d .1))
-stairs-after (par t u ∷ ts) d = (omega (arith, d .0), (omega (arith, d .0), d .1))
-stairs-after (res a t ∷ ts) d = (omega (arith, d .0), d .1)
-
-depth-some : (t : Term) → 0 < depth t
-unfolding depth
-depth-some nil = omega arith
-depth-some (pre a k t) = omega arith
-depth-some (cho t u) = omega arith
-depth-some (par t u) = omega arith
-depth-some (res a t) = omega arith
-
--- so no more terms are due at once than there are levels
-pub stairs-few : (ts : List Term) → Stairs ts → length ts ≤ depth-limit
-stairs-few [] d = omega arith
-stairs-few (t ∷ ts) d = omega (arith, d .0, depth-some t)

@@ -2,25 +2,38 @@
 // Helpers between crates, with what each asks of its caller.
 use keys::key_at;
 use reader::DEPTH;
+use reader::DUE;
+use reader::Head;
 use reader::NODES;
+use reader::pass_node;
+use shared::NO_RECORD;
 use shared::wide;
-use shared::wide_byte;
 ghost use mathlib.Core.Path.{_≡_};
-ghost use Prim.Native.Nat.{_+_, _<_, _≤_};
+ghost use Prim.Native.Nat.{_<_, _≤_};
 ghost use lib.ListN.{length};
 ghost use Rattle.format.specs.Limits.{node-limit};
-ghost use Rattle.keys.specs.Gather.{Readable};
 ghost use Rattle.filing.specs.Cabinet.{cabinet, Sized, Empty, drawer, Files};
-ghost use Rattle.filing.specs.Record.{below, Pushed, MetBy, Stands, AllFiled};
+ghost use Rattle.filing.specs.Record.{below, Pushed, MetBy, FilesAll};
 
-// A place for each term that is due at once, and one to spare.
-const OPEN: usize = DEPTH + 1;
+// A place for each link that a record may have, one for each node; the first place stands for no link.
+pub const LINKS: usize = NODES + 1;
+
+// How far apart the drawers of keys are that lie as far apart as there are drawers.
+const SHIFT: usize = 257;
+
+// What filing a record comes to, for a key that was asked for: the bytes are refused, the key does not stand there, or it does.
+pub enum Found {
+    Refused(u8),
+    Absent,
+    Standing,
+}
 
 // The drawer of a key.
 pub fn drawer(key: u16) -> usize
     ensures { λ r. ⌜ r ≡ drawer key ⌝ }
 {
-    wide(key) % NODES
+    let k = wide(key);
+    (k + k / NODES * SHIFT) % NODES
 }
 
 // Files the link from `up` down to `here`, unless one of them is 0 and no key: how many links there are then.
@@ -30,12 +43,12 @@ fn file(
     here: u16,
     upper: &mut [u16],
     lower: &mut [u16],
-    next: &mut [u16],
-    first: &mut [u16],
+    older: &mut [u16],
+    latest: &mut [u16],
 ) -> usize
-    requires { ⌜ Sized (cabinet (now upper) (now lower) (now next) (now first)) ⌝ }
-    requires { ⌜ (0 < here → links + 1 < node-limit) ⌝ }
-    ensures { λ r. ⌜ Files links up here (cabinet (now (upper .entry)) (now (lower .entry)) (now (next .entry)) (now (first .entry))) (cabinet (now (upper .exit)) (now (lower .exit)) (now (next .exit)) (now (first .exit))) r ⌝ }
+    requires { ⌜ Sized (cabinet (now upper) (now lower) (now older) (now latest)) ⌝ }
+    requires { ⌜ links < node-limit ⌝ }
+    ensures { λ r. ⌜ Files links up here (cabinet (now (upper .entry)) (now (lower .entry)) (now (older .entry)) (now (latest .entry))) (cabinet (now (upper .exit)) (now (lower .exit)) (now (older .exit)) (now (latest .exit))) r ⌝ }
 {
     if up == 0 {
         return links;
@@ -47,8 +60,8 @@ fn file(
     let at = drawer(up);
     upper[link] = up;
     lower[link] = here;
-    next[link] = first[at];
-    first[at] = link as u16;
+    older[link] = latest[at];
+    latest[at] = link as u16;
     link
 }
 
@@ -84,36 +97,55 @@ fn met_by(met: bool, here: u16, key: u16) -> bool
     met
 }
 
-// Files the links of a record, and tells whether the key stands there. `ups` is a stack: the key right above each term that is due, the
-// next term's last; 0 is none.
+// Reads a record and files its links on the way, so that the bytes are gone through once; tells whether the key stands there. `due` and
+// `ups` are stacks, with a number for each term that is due, the next term's last: how many levels it may have, and the key right above it,
+// 0 if there is none.
 pub fn file_all(
     bytes: &[u8],
     key: u16,
     upper: &mut [u16],
     lower: &mut [u16],
-    next: &mut [u16],
-    first: &mut [u16],
-) -> bool
-    requires { ⌜ Readable (now bytes) ⌝ }
+    older: &mut [u16],
+    latest: &mut [u16],
+) -> Found
     requires { ⌜ 0 < key ⌝ }
-    requires { ⌜ Empty (cabinet (now upper) (now lower) (now next) (now first)) ⌝ }
-    ensures { λ r. ⌜ Stands (now (bytes .entry)) key r × AllFiled (now (bytes .entry)) (cabinet (now (upper .exit)) (now (lower .exit)) (now (next .exit)) (now (first .exit))) ⌝ }
+    requires { ⌜ Empty (cabinet (now upper) (now lower) (now older) (now latest)) ⌝ }
+    ensures { λ r. ⌜ FilesAll (now (bytes .entry)) key (cabinet (now (upper .exit)) (now (lower .exit)) (now (older .exit)) (now (latest .exit))) r ⌝ }
 {
-    let body = reader::BODY;
-    let children = reader::CHILDREN;
-    let mut ups = [0u16; OPEN];
+    let bodies = reader::BODY;
+    let families = reader::CHILDREN;
+    let mut due = [DEPTH; DUE];
+    let mut ups = [0u16; DUE];
     let mut many: usize = 1;
+    let mut left = NODES;
     let mut at: usize = 0;
     let mut links: usize = 0;
     let mut met = false;
-    while at < bytes.len() {
-        let kind = wide_byte(bytes[at]);
-        let here = key_at(bytes, at);
-        let up = ups[many - 1];
-        links = file(links, up, here, upper, lower, next, first);
-        met = met_by(met, here, key);
-        many = push(&mut ups, many, below(up, here), children[kind]);
-        at += 1 + body[kind];
+    while 0 < many {
+        match pass_node(bytes, at, left, many, &mut due, &bodies, &families) {
+            Head::Refused(c) => {
+                return Found::Refused(c);
+            }
+            Head::Node {
+                kind: _,
+                children,
+                next,
+            } => {
+                let here = key_at(bytes, at);
+                let up = ups[many - 1];
+                links = file(links, up, here, upper, lower, older, latest);
+                met = met_by(met, here, key);
+                many = push(&mut ups, many, below(up, here), children);
+                left -= 1;
+                at = next;
+            }
+        }
     }
-    met
+    if at < bytes.len() {
+        return Found::Refused(NO_RECORD);
+    }
+    if met {
+        return Found::Standing;
+    }
+    Found::Absent
 }

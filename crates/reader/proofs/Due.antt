@@ -10,10 +10,12 @@ use Rattle.format.specs.Limits.{node-limit, depth-limit}
 use Rattle.format.specs.Read.{Reading, Reading.refused, term, kindOf, keyOf, onward, read, finish, decode, Refuses}
 use Rattle.format.specs.Encode.{Bytes}
 use Rattle.format.proofs.Unique.{read-written}
-use Rattle.operations.specs.Ask.{ReadRecord, unreadable, done}
+use Rattle.operations.specs.Ask.{ReadRecord, done}
+use Rattle.reader.specs.declared.Head.{Head}
+use Rattle.reader.specs.declared.Head.the-variants.{Refused, Node}
 use Rattle.reader.specs.Head.{childCount, under}
 use Rattle.reader.specs.Walk.{Stops, NodeDue}
-use Rattle.reader.specs.Due.{stacked, push, Rest, stop, rest, after, readAll, Fits, Remains}
+use Rattle.reader.specs.Due.{stacked, push, Rest, stop, rest, after, readAll, Fits, Remains, Passed, Passes}
 use Rattle.reader.proofs.Heads.{by-kind}
 use Rattle.reader.proofs.Laws.{read-under}
 use Rattle.reader.proofs.Stack.{stacked-length, stacked-top, pushed}
@@ -80,9 +82,9 @@ module _ (s : List ℕ) where
       unfolding readAll
       all = all-reads (drop at s) left (sym (A .same) ∙ rw z)
 
-      pub more-bytes : at < length s → ReadRecord s 1 0
+      pub more-bytes : at < length s → Refuses s 1
       unfolding decode finish
-      more-bytes h = unreadable {c = 1} (rw (all .1, drop-cons s at 0 h))
+      more-bytes h = rw (all .1, drop-cons s at 0 h)
 
       pub no-more-bytes : Bytes s → length s ≤ at → ReadRecord s 0 (node-limit - left)
       unfolding decode finish
@@ -103,8 +105,8 @@ module _ (s : List ℕ) where
       unfolding readAll
       ahead = sym (ap (λ ds. readAll ds left (drop at s)) (stacked-top many levels m)) ∙ A .same
 
-      pub refuse : (c : ℕ) → Stops s at (getD levels (many - 1) 0) left c → ReadRecord s c 0
-      refuse c h = unreadable (all-stops c (sym ahead ∙ rw h))
+      pub refuse : (c : ℕ) → Stops s at (getD levels (many - 1) 0) left c → Refuses s c
+      refuse c h = all-stops c (sym ahead ∙ rw h)
 
       module _ (kind children next : ℕ) (D : NodeDue s at (getD levels (many - 1) 0) left kind children next) where
         pub many-inside : many < 257
@@ -122,3 +124,14 @@ module _ (s : List ℕ) where
           where
             new : stacked (many - 1 + children) (set (set levels (many - 1) v) many v) ≡ push (childCount kind) (getD levels (many - 1) 0 - 1) (stacked (many - 1) levels)
             new = rw (D .good .count, e) (pushed many levels _ _ (stacked-top many levels m) _ (omega (arith, A .room, many-inside)) (omega (arith, A .room, many-inside)) (childCount kind) (children-most kind (D .good .known)))
+
+        pub passed : (v : ℕ) → v ≡ getD levels (many - 1) 0 - 1 → Passed s at left many kind children next (set (set levels (many - 1) v) many v)
+        passed v e = record { inside = D .inside; nodes = omega (arith, D .nodes); deep = omega (arith, many-inside); good = D .good; remains = goes-on v e }
+
+-- what passing a node comes to, once its case is known
+module _ (s : List ℕ) (at left many : ℕ) (h : Head) (levels : List ℕ) (P : Passes s at left many h levels) where
+  pub pass-refused : (c : ℕ) → h ≡ Refused c → Refuses s c
+  pass-refused c e = subst (λ (x : Head). Passes s at left many x levels) e P
+
+  pub pass-good : (kind children next : ℕ) → h ≡ Node kind children next → Passed s at left many kind children next levels
+  pass-good kind children next e = subst (λ (x : Head). Passes s at left many x levels) e P

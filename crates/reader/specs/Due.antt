@@ -1,10 +1,13 @@
 -- What is due while a record is read: a stack in an array, and what reading the terms on it comes to.
 use mathlib.Core.Path.{_≡_}
 use mathlib.Core.List.{List, [], _∷_}
-use Prim.Native.Nat.{ℕ, zero, suc, _+_, _≤_}
+use Prim.Native.Nat.{ℕ, zero, suc, _+_, _-_, _≤_, _<_}
 use lib.ListN.{length, drop, getD}
 use Rattle.format.specs.Limits.{node-limit, depth-limit}
-use Rattle.format.specs.Read.{Reading, refused, term, read}
+use Rattle.format.specs.Read.{Reading, refused, term, read, Refuses}
+use Rattle.reader.specs.declared.Head.{Head}
+use Rattle.reader.specs.declared.Head.the-variants.{Refused, Node}
+use Rattle.reader.specs.Head.{NodeAt}
 
 -- the first n elements of a list, the last of them first: a stack that grows to the right
 abbrev pub stacked : ℕ → List ℕ → List ℕ
@@ -42,3 +45,16 @@ pub record Remains (s : List ℕ) (levels : List ℕ) (many left at : ℕ) : Typ
   pub fits : Fits (stacked many levels)
   pub room : length levels ≡ suc depth-limit
   pub few : left ≤ node-limit
+
+-- A good node was due at the place `at` of s and is passed: its children are due.
+pub record Passed (s : List ℕ) (at left many kind children next : ℕ) (levels : List ℕ) : Type 0 where
+  pub inside : at < length s
+  pub nodes : 0 < left
+  pub deep : many ≤ depth-limit
+  pub good : NodeAt s at kind children next
+  pub remains : Remains s levels (many - 1 + children) (left - 1) next
+
+-- what `pass_node` answers: the record is refused, or its next node is passed
+abbrev pub Passes : List ℕ → ℕ → ℕ → ℕ → Head → List ℕ → Type 0
+Passes s at left many (Refused c) levels = Refuses s c
+Passes s at left many (Node kind children next) levels = Passed s at left many kind children next levels

@@ -5,6 +5,7 @@ ghost use lib.ListN.{length};
 ghost use Rattle.operations.specs.Ask.{ReadRecord};
 ghost use Rattle.reader.specs.Head.{body, childCount, Tables, Headed};
 ghost use Rattle.reader.specs.Walk.{Due};
+ghost use Rattle.reader.specs.Due.{Remains, Passes};
 ghost use Rattle.shared.specs.Number.{refusal, value};
 use shared::LAST_NAME;
 use shared::NO_ACTION;
@@ -18,8 +19,8 @@ pub const NODES: usize = 4096;
 
 pub const DEPTH: usize = 256;
 
-// The length of the reader's stack of levels: a place for each level and one to spare.
-const DUE: usize = DEPTH + 1;
+// The length of a stack with a number for each term that is due: a place for each level, and one to spare.
+pub const DUE: usize = DEPTH + 1;
 
 // The kinds of a node. The tables below give for each the length of its body and the number of its children.
 pub const NIL: usize = 0;
@@ -122,8 +123,44 @@ pub fn node_due(
     node_at(s, at, bodies, families)
 }
 
-// The number of nodes of the record that the bytes are, or the refusal. `due` is a stack: how many levels each of the `many` terms
-// that are due may have, the next term's last. A node's children take its place there, with a level less.
+// Passes the node that is due, if it is good. `due` is a stack: how many levels each of the `many` terms that are due may have, the next
+// term's last. The node's children take its place there, with a level less. A helper for loops that read a record.
+pub fn pass_node(
+    s: &[u8],
+    at: usize,
+    left: usize,
+    many: usize,
+    due: &mut [usize; DUE],
+    bodies: &[usize; KINDS],
+    families: &[usize; KINDS],
+) -> Head
+    requires { ⌜ Tables (now bodies) (now families) ⌝ }
+    requires { ⌜ (0 < many) × Remains (now s) (now due) many left at ⌝ }
+    ensures { λ r. ⌜ Passes (now (s .entry)) at left many r (now (due .exit)) ⌝ }
+{
+    let top = many - 1;
+    let levels = due[top];
+    let head = node_due(s, at, levels, left, bodies, families);
+    match head {
+        Head::Refused(c) => Head::Refused(c),
+        Head::Node {
+            kind,
+            children,
+            next,
+        } => {
+            let below = levels - 1;
+            due[top] = below;
+            due[many] = below;
+            Head::Node {
+                kind: kind,
+                children: children,
+                next: next,
+            }
+        }
+    }
+}
+
+// The number of nodes of the record that the bytes are, or the refusal.
 pub fn read(bytes: &[u8]) -> Number
     ensures { λ r. ⌜ ReadRecord (now (bytes .entry)) (refusal r) (value r) ⌝ }
 {
@@ -134,9 +171,7 @@ pub fn read(bytes: &[u8]) -> Number
     let mut left = NODES;
     let mut at: usize = 0;
     while 0 < many {
-        let top = many - 1;
-        let levels = due[top];
-        match node_due(bytes, at, levels, left, &bodies, &families) {
+        match pass_node(bytes, at, left, many, &mut due, &bodies, &families) {
             Head::Refused(c) => {
                 return Number::Refused(c);
             }
@@ -145,10 +180,7 @@ pub fn read(bytes: &[u8]) -> Number
                 children,
                 next,
             } => {
-                let below = levels - 1;
-                due[top] = below;
-                due[many] = below;
-                many = top + children;
+                many = many - 1 + children;
                 left -= 1;
                 at = next;
             }

@@ -1,14 +1,12 @@
 -- From the set of keys that links lead to, to the answer.
-use mathlib.Core.Path.{_≡_, refl, sym, subst}
-use mathlib.Core.Logic.{_≢_, _↔_}
+use mathlib.Core.Path.{_≡_, refl, subst}
+use mathlib.Core.Logic.{_↔_}
 use mathlib.Core.List.{List}
 use mathlib.Core.Bool.{Bool, true, false}
 use Prim.Native.Nat.{ℕ, _<_}
 use native.Mathlib.Omega.{arith}
 use lib.ListN.{length}
-use Rattle.ccsk.specs.Numbers.{In, Lists}
 use Rattle.ccsk.specs.Term.{Term, Key, Has}
-use Rattle.sound.specs.Sound.{Chain, one, more}
 use Rattle.sound.proofs.Chains.{chain-map, final}
 use Rattle.causes.proofs.Nearest.{chains-agree, right-keys}
 use Rattle.format.specs.Read.{Reads}
@@ -18,21 +16,23 @@ use Rattle.keyset.specs.Set.{member, membersBelow}
 use Rattle.keyset.proofs.Counts.{members-count}
 use Rattle.keyset.proofs.Members.{members-list}
 use Rattle.keys.proofs.Marks.{holds-members}
-use Rattle.filing.specs.Cabinet.{Cabinet, Link}
-use Rattle.filing.specs.Record.{Stands, AllFiled}
+use Rattle.filing.specs.Cabinet.{Cabinet}
+use Rattle.filing.specs.declared.Found.{Found}
+use Rattle.filing.specs.declared.Found.the-variants.{Refused, Absent, Standing}
+use Rattle.filing.specs.Record.{Stands, AllFiled, FilesAll}
 use Rattle.chains.specs.Reach.{Closed}
 use Rattle.waiting.specs.Listed.{ToKeys, LeadsTo, Listed}
 
--- whether the key was met, once its case is known
-module _ (s : List ℕ) (m : Key) (r : Bool) (S : Stands s m r) where
-  pub it-stands : r ≡ true → Stands s m true
-  it-stands e = subst (Stands s m) e S
+-- what filing comes to, once its case is known
+module _ (s : List ℕ) (m : Key) (x : Cabinet) (r : Found) (F : FilesAll s m x r) where
+  pub bytes-refused : (c : ℕ) → r ≡ Refused c → (row : List ℕ) → WaitingList s m row c 0 row
+  bytes-refused c e row = WaitingList.unreadable (subst (FilesAll s m x) e F)
 
-  pub it-is-absent : r ≡ false → Stands s m false
-  it-is-absent e = subst (Stands s m) e S
+  pub key-absent : r ≡ Absent → 0 < m → (row : List ℕ) → WaitingList s m row 7 0 row
+  key-absent e p row = let S : Stands s m false = subst (FilesAll s m x) e F in WaitingList.key-absent (S .1 .reads) p (S .2)
 
-pub refused-absent : (s row : List ℕ) (m : Key) → 0 < m → Stands s m false → WaitingList s m row 7 0 row
-refused-absent s row m p S = WaitingList.key-absent (S .1 .reads) p (S .2)
+  pub key-stands : r ≡ Standing → Stands s m true × AllFiled s x
+  key-stands e = subst (FilesAll s m x) e F
 
 -- the set of the keys that were reached
 module _ (x : Cabinet) (m : Key) (marks : List ℕ) (n : ℕ) (C : Closed x m marks n) where
@@ -54,8 +54,10 @@ module _ (x : Cabinet) (m : Key) (marks : List ℕ) (n : ℕ) (C : Closed x m ma
     reached-listed row row′ r y F = (membersBelow marks 65536, members-list marks no-zero 65536 (LeadsTo x m) each, F)
       where
         each : (k : Key) → (k < 65536) × (member marks k ≡ true) ↔ (0 < k) × LeadsTo x m k
-        each k = (λ w. let l = C .exact k .0 (C .holds .exact k (w .0) .0 (w .1)) in (key-reached k l, l),
-            λ w. let i = C .exact k .1 (w .1) in (C .small k i, C .holds .exact k (C .small k i) .1 i))
+        each k = (
+          λ w. let l = C .exact k .0 (C .holds .exact k (w .0) .0 (w .1)) in (key-reached k l, l),
+          λ w. let i = C .exact k .1 (w .1) in (C .small k i, C .holds .exact k (C .small k i) .1 i),
+        )
 
 -- the links of a record
 module _ (s : List ℕ) (x : Cabinet) (A : AllFiled s x) where
@@ -72,7 +74,7 @@ module _ (s : List ℕ) (x : Cabinet) (A : AllFiled s x) where
   pub answered : (m : Key) (row row′ : List ℕ) (r y : ℕ) → 0 < m → Stands s m true → Listed x m row r y row′ → WaitingList s m row r y row′
   answered m row row′ r y p S L =
       WaitingList.done (A .1 .1 .reads) p (subst (Has m) (same (S .0) of (S .1 .reads) (A .1 .1 .reads)) (S .2))
-        (L .1 .0, λ k. (λ i. let w = L .1 .1 k .0 i in (w .0, waits m k .0 (w .1)), λ w. L .1 .1 k .1 (w .0, waits m k .1 (w .1)))) (L .2)
+      (L .1 .0, λ k. (λ i. let w = L .1 .1 k .0 i in (w .0, waits m k .0 (w .1)), λ w. L .1 .1 k .1 (w .0, waits m k .1 (w .1)))) (L .2)
     where
       same : (t u : Term) → Reads s t → Reads s u → t ≡ u
       same t u p q = cc
