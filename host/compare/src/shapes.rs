@@ -23,7 +23,7 @@ pub const SHAPES: [Shape; 14] = [
 ];
 
 /// More shapes for the waiting list alone: long lists, and keys that meet in a table.
-pub const CHAINS: [Shape; 7] = [
+pub const CHAINS: [Shape; 8] = [
     ("chain, keys descending", |nodes| chain(nodes, 2, |keys| keys.reverse())),
     ("chain, keys shuffled", |nodes| chain(nodes, 2, |keys| Random(1).shuffle(keys))),
     ("chain, 32 keys a part", |nodes| chain(nodes, 32, |keys| Random(1).shuffle(keys))),
@@ -31,6 +31,10 @@ pub const CHAINS: [Shape; 7] = [
     ("one key in every place", |nodes| chain(nodes, 32, |keys| keys.fill(7))),
     ("16 keys equal mod 4,096", |nodes| {
         chain(nodes, 32, |keys| keys.iter_mut().for_each(|key| *key = 4096 * (*key % 16) + 7))
+    }),
+    // The library files what stands below a key in one of 4,096 drawers, and these 16 keys share one: its worst case.
+    ("16 keys of one drawer", |nodes| {
+        chain(nodes, 32, |keys| keys.iter_mut().for_each(|key| *key = 4096 * (*key % 16) + 4095 - 257 * (*key % 16)))
     }),
     ("one key above all others", star),
 ];
