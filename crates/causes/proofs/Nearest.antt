@@ -11,16 +11,16 @@ use Rattle.causes.specs.Nearest.{RightAbove}
 use Rattle.sound.proofs.Chains.{chain-map, chain-join, chain-bind}
 
 -- from the key above the term to one inside, or between two keys of the term
-right-above : (u : ℕ) (t : Term) (m k : ℕ) → RightAbove u t m k → ((m ≡ u) × Has k t) ⊎ Above m k t
-right-above u nil m k i = absurd i
-right-above u (pre a zero t) m k i = ⊎-elim (λ z. inl (z .0, inr (z .1))) (λ z. inr (inr z)) (right-above u t m k i)
-right-above u (pre a (suc j) t) m k (inl i) = inl (i .1, inl (i .2))
-right-above u (pre a (suc j) t) m k (inr i) = ⊎-elim (λ z. inr (inl z)) (λ z. inr (inr z)) (right-above (suc j) t m k i)
-right-above u (cho t r) m k (inl i) = ⊎-elim (λ z. inl (z .0, inl (z .1))) (λ z. inr (inl z)) (right-above u t m k i)
-right-above u (cho t r) m k (inr i) = ⊎-elim (λ z. inl (z .0, inr (z .1))) (λ z. inr (inr z)) (right-above u r m k i)
-right-above u (par t r) m k (inl i) = ⊎-elim (λ z. inl (z .0, inl (z .1))) (λ z. inr (inl z)) (right-above u t m k i)
-right-above u (par t r) m k (inr i) = ⊎-elim (λ z. inl (z .0, inr (z .1))) (λ z. inr (inr z)) (right-above u r m k i)
-right-above u (res a t) m k i = right-above u t m k i
+above-or-outside : (u : ℕ) (t : Term) (m k : ℕ) → RightAbove u t m k → ((m ≡ u) × Has k t) ⊎ Above m k t
+above-or-outside u nil m k i = absurd i
+above-or-outside u (pre a zero t) m k i = ⊎-elim (λ z. inl (z .0, inr (z .1))) (λ z. inr (inr z)) (above-or-outside u t m k i)
+above-or-outside u (pre a (suc j) t) m k (inl i) = inl (i .1, inl (i .2))
+above-or-outside u (pre a (suc j) t) m k (inr i) = ⊎-elim (λ z. inr (inl z)) (λ z. inr (inr z)) (above-or-outside (suc j) t m k i)
+above-or-outside u (cho t r) m k (inl i) = ⊎-elim (λ z. inl (z .0, inl (z .1))) (λ z. inr (inl z)) (above-or-outside u t m k i)
+above-or-outside u (cho t r) m k (inr i) = ⊎-elim (λ z. inl (z .0, inr (z .1))) (λ z. inr (inr z)) (above-or-outside u r m k i)
+above-or-outside u (par t r) m k (inl i) = ⊎-elim (λ z. inl (z .0, inl (z .1))) (λ z. inr (inl z)) (above-or-outside u t m k i)
+above-or-outside u (par t r) m k (inr i) = ⊎-elim (λ z. inl (z .0, inr (z .1))) (λ z. inr (inr z)) (above-or-outside u r m k i)
+above-or-outside u (res a t) m k i = above-or-outside u t m k i
 
 -- both are keys
 pub right-keys : (u : ℕ) (t : Term) (m k : ℕ) → RightAbove u t m k → (0 < m) × (0 < k)
@@ -61,14 +61,15 @@ above-chain u (par t r) m k p q (inr i) = chain-map (λ x y z. inr z) (above-cha
 above-chain u (res a t) m k p q i = above-chain u t m k p q i
 
 module _ (t : Term) where
-  -- a link of the order is a chain of keys right above
+  -- a chain of the order is a chain of keys right above
   pub before-chain : {m k : ℕ} → Chain (Before t) m k → Chain (RightAbove 0 t) m k
   before-chain = chain-bind (λ x y b. above-chain 0 t x y (b .0) (b .1) (b .3))
 
   -- the key right above stands above
   pub right-above-keys : (m k : ℕ) → RightAbove 0 t m k → (0 < m) × Above m k t
-  right-above-keys m k i = let p = right-keys 0 t m k i in (p .0, ⊎-elim (λ z. never (p .0) (z .0)) (λ z. z) (right-above 0 t m k i))
+  right-above-keys m k i = let p = right-keys 0 t m k i in (p .0, ⊎-elim (λ z. never (p .0) (z .0)) (λ z. z) (above-or-outside 0 t m k i))
 
+  -- and is linked to it by the order, if it is another key
   pub right-before : (m k : ℕ) → m ≢ k → RightAbove 0 t m k → Before t m k
   right-before m k n i = (right-keys 0 t m k i .0, right-keys 0 t m k i .1, n, right-above-keys m k i .1)
 

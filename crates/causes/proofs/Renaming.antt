@@ -15,7 +15,7 @@ use Rattle.causes.specs.Entry.{Entry, Scopes, under, open-scopes, marked
 use Rattle.causes.specs.Tests.{EachKey, AtMostTwo, Complements, Beside, Enclosed, Leads, Acyclic}
 use Rattle.causes.specs.Links.{key-column, up-column, Linked, NoCycle, renamed}
 use Rattle.causes.proofs.Entries.{only-same, only-other}
-use Rattle.sound.proofs.Chains.{chain-map}
+use Rattle.sound.proofs.Chains.{first, final, chain-map}
 use Rattle.causes.proofs.Taking.{linked-low}
 use Rattle.causes.specs.Columns.{Faithful}
 
@@ -146,12 +146,10 @@ renamed-leads f (e ∷ l) m n z (inl i) = (e .up, e .key, inl (up (e .up) refl, 
 renamed-leads f (e ∷ l) m n z (inr i) = let r = renamed-leads f l m n z i in (r .0, r .1, inr (r .2), r .3, r .4)
 
 chain-start : (ks : List ℕ) (l : List Entry) → Known ks l → {m n : ℕ} → Chain (Leads l) m n → In m ks
-chain-start ks l p (one {m = x} {n = y} b) = leads-known ks l x y p b
-chain-start ks l p (more c b) = chain-start ks l p c
+chain-start ks l p {m = m} c = let i = first c in leads-known ks l m (i .0) p (i .1)
 
 chain-end : (l : List Entry) {m n : ℕ} → Chain (Leads l) m n → In n (key-column l)
-chain-end l (one {m = x} {n = y} b) = leads-low l x y b
-chain-end l (more {k = x} {n = y} c b) = leads-low l x y b
+chain-end l {n = n} c = let i = final c in leads-low l (i .0) n (i .1)
 
 module _ (f : ℕ → ℕ) (l : List Entry) (z : f 0 ≡ 0) (p : Faithful f (key-column l)) (w : Known (key-column l) l) where
   rename : (x y : ℕ) → Leads l x y → Leads (renamed f l) (f x) (f y)

@@ -11,7 +11,8 @@ use lib.Dec.{eqb}
 use lib.ListN.{length}
 use Rattle.ccsk.specs.Numbers.{In, in?, either}
 use Rattle.ccsk.proofs.Decide.{three}
-use Rattle.sound.specs.Sound.{Chain, one, more}
+use Rattle.sound.specs.Sound.{Chain}
+use Rattle.sound.proofs.Chains.{final}
 use Rattle.sound.proofs.Peel.{Peak, peak, Rowed, rowed-free}
 use Rattle.ccsk.specs.Term.{tick}
 use Rattle.causes.specs.Links.{Linked, NoCycle, one-when, one-if, times, pending, right-above}
@@ -72,8 +73,7 @@ unfolding Rowed
 take-next ks us o m w f e = (f, pending-none m o ks us e, w)
 
 chain-end : (ks us : List ℕ) {m n : ℕ} → Chain (Linked ks us) m n → In n ks
-chain-end ks us (one {m = x} {n = y} b) = linked-low ks us x y b
-chain-end ks us (more {k = x} {n = y} c b) = linked-low ks us x y b
+chain-end ks us {n = n} c = let l = final c in linked-low ks us (l .0) n (l .1)
 
 -- all keys are taken out, each after those right below it: there is no cycle
 pub emptied : (ks us o : List ℕ) → Rowed (Linked ks us) (linked? ks us) o → ((k : ℕ) → In k ks → In k o) → NoCycle ks us

@@ -4,7 +4,8 @@ use mathlib.Core.Logic.{_⊎_}
 use Prim.Native.Nat.{zero, suc, _<_}
 use Rattle.ccsk.specs.Term.{Term, Key, nil, pre, cho, par, res}
 
--- Somewhere in t, m is the key right above a prefix that holds n. The key right above t itself is u, 0 if there is none.
+-- Somewhere in t, m is the key right above a prefix that holds n. The key right above t itself is u, 0 if there is none
+-- (004, Definition 3.1: of ord only the nearest links; the others follow by chains).
 abbrev pub RightAbove : Key → Term → Key → Key → Type 0
 RightAbove u nil m n = ⊥
 RightAbove u (pre a zero t) m n = RightAbove u t m n

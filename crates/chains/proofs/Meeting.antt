@@ -14,9 +14,10 @@ use Rattle.ccsk.specs.Term.{Key}
 use Rattle.ccsk.proofs.Basic.{never}
 use Rattle.ccsk.proofs.Lists.{in-left, in-either, in-without, getD-in, distinct-old, distinct-new, without-shorter}
 use Rattle.sound.specs.Sound.{Chain, one, more}
+use Rattle.sound.proofs.Chains.{final}
 use Rattle.format.specs.Limits.{node-limit}
-use Rattle.keyset.specs.Set.{member, added, Added}
-use Rattle.keyset.proofs.Sets.{added-same, added-other}
+use Rattle.keyset.specs.Set.{member, added}
+use Rattle.keyset.proofs.Sets.{gain-few, added-same, added-other}
 use Rattle.keys.specs.Gather.{Holds}
 use Rattle.keys.proofs.Marks.{put-in}
 use Rattle.keys.proofs.Distinct.{snoc, snoc-last}
@@ -37,11 +38,6 @@ distinct-within (a ∷ l) c f = pick (in? a l) (distinct-within l)
       without-shorter a c (f a (inl refl)),
       g (without a c) (λ k j. in-without k a c (λ e. n (subst (λ (z : ℕ). In z l) e j)) .1 (f k (inr j))),
     )
-
--- the lower end of a chain is the lower key of a link
-pub chain-end : (x : Cabinet) {m k : Key} → Chain (Link x) m k → (j : Key) × Link x j k
-chain-end x (one {m = j} b) = (j, b)
-chain-end x (more {k = j} c b) = (j, b)
 
 module _ (x : Cabinet) (F : Filed x) where
   -- a link has a number from 1 on, below the limit
@@ -78,7 +74,7 @@ module _ (x : Cabinet) (F : Filed x) where
     R .count,
     length-drop 1 (x .lower),
     F .sized .lower,
-    distinct-within (R .keys) (drop 1 (x .lower)) (λ k i. low-key (chain-end x (R .led k i .1) .1)),
+    distinct-within (R .keys) (drop 1 (x .lower)) (λ k i. low-key (final (R .led k i .1) .1)),
   )
 
 -- a set with one key more holds all that it held
@@ -88,14 +84,6 @@ within-added marks k h j e = pick (ℕ-discrete j k)
     pick : Dec (j ≡ k) → member (added marks k) j ≡ true
     pick (yes q) = rw q (added-same marks k h)
     pick (no q) = added-other marks k j h q ∙ e
-
--- at most one key more
-pub gain-few : {marks marks′ : List ℕ} {k : Key} {n : ℕ} → Added marks k marks′ n → n ≤ 1
-gain-few {marks} {k = k} A = rw (A .gain) (one-or-none (member marks k))
-  where
-    one-or-none : (b : Bool) → cond b 0 1 ≤ 1
-    one-or-none true = omega arith
-    one-or-none false = omega arith
 
 module _ (x : Cabinet) (m from : Key) (w : From x m from) (u k : Key) (small : k < 65536) (i : ℕ) (p : 0 < getD (x .upper) i 0) (e : u ≡ getD (x .upper) i 0) (f : k ≡ getD (x .lower) i 0) where
   -- what one look at a link does: the same queue in front, at least as many keys, and the link is done with

@@ -10,12 +10,12 @@ use lib.ListN.{length, getD}
 use Rattle.ccsk.specs.Numbers.{distinct}
 use Rattle.ccsk.specs.Term.{Key}
 use Rattle.sound.specs.Sound.{Chain, one, more}
+use Rattle.sound.proofs.Chains.{final}
 use Rattle.format.specs.Limits.{node-limit}
 use Rattle.keyset.specs.Set.{member}
 use Rattle.keys.specs.Gather.{Holds}
 use Rattle.filing.specs.Cabinet.{Cabinet, Link}
 use Rattle.chains.specs.Reach.{Reached, From, Followed, Follows, Closed}
-use Rattle.chains.proofs.Meeting.{chain-end}
 
 pub none-reached : (x : Cabinet) (m : Key) (marks queue : List ℕ) → Holds marks [] → length queue ≡ suc node-limit → Reached x m marks queue 0
 unfolding distinct
@@ -67,7 +67,7 @@ module _ {x : Cabinet} {m : Key} {marks queue : List ℕ} {head tail : ℕ} (R :
   }
     where
       end-small : {j k : Key} → Chain (Link x) j k → k < 65536
-      end-small c = let l = chain-end x c .1 in rw (← l .3) (small (l .0))
+      end-small c = let l = final c .1 in rw (← l .3) (small (l .0))
 
       on : (j k : Key) → (j ≡ m) ⊎ (member marks j ≡ true) → j < 65536 → Link x j k → (k ≡ m) ⊎ (member marks k ≡ true)
       on j k (inl e) s l = R .asked k (rw e at l)

@@ -13,8 +13,12 @@ use Rattle.keyset.specs.Set.{member, Added}
 use Rattle.keys.specs.Gather.{Holds}
 use Rattle.filing.specs.Cabinet.{Cabinet, Link}
 
--- At a link from u down to k, while the links from `from` are followed: k goes into the set, and if it is new to the end of the queue; but
--- m stays out. The queue has the length r then.
+-- a chain of links leads from m to another key n
+abbrev pub LeadsTo : Cabinet → Key → Key → Type 0
+LeadsTo x m n = (n ≢ m) × Chain (Link x) m n
+
+-- A link from u down to k is looked at while the links from `from` are followed. If it is one of those, and k is not m, k goes into the set,
+-- and to the end of the queue if it was not in the set. The queue has the length r then.
 pub data Meets (u k from m : Key) (marks queue : List ℕ) (tail : ℕ) : List ℕ → List ℕ → ℕ → Type 0 where
   other : u ≢ from → Meets u k from m marks queue tail marks queue tail
   asked : k ≡ m → Meets u k from m marks queue tail marks queue tail
@@ -25,7 +29,7 @@ pub record Reached (x : Cabinet) (m : Key) (marks queue : List ℕ) (tail : ℕ)
   pub keys : List Key
   pub holds : Holds marks keys
   pub count : tail ≡ distinct keys
-  pub led : (k : Key) → In k keys → (k ≢ m) × Chain (Link x) m k
+  pub led : (k : Key) → In k keys → LeadsTo x m k
   pub found : (k : Key) → In k keys → (i : ℕ) × (i < tail) × (getD queue i 0 ≡ k)
   pub queued : (i : ℕ) → i < tail → In (getD queue i 0) keys
   pub sized : length queue ≡ suc node-limit
@@ -56,4 +60,4 @@ pub record Closed (x : Cabinet) (m : Key) (marks : List ℕ) (n : ℕ) : Type 0 
   pub holds : Holds marks keys
   pub small : (k : Key) → In k keys → k < 65536
   pub count : n ≡ distinct keys
-  pub exact : (k : Key) → In k keys ↔ ((k ≢ m) × Chain (Link x) m k)
+  pub exact : (k : Key) → In k keys ↔ LeadsTo x m k

@@ -13,7 +13,7 @@ ghost use Rattle.filing.specs.Cabinet.{cabinet, Filed};
 ghost use Rattle.chains.specs.Reach.{Meets, Reached, From, Follows, Closed};
 
 // Looks at a link while those from `from` are followed: its lower key, if that is new and not the key asked for, goes into the set and to
-// the end of the queue. Answers how long the queue is.
+// the end of the queue. The place after the end is written either way, and the length that is answered tells whether it counts.
 fn meet(
     upper: u16,
     lower: u16,

@@ -4,13 +4,13 @@ use mathlib.Core.Logic.{_⊎_, inl, inr, ⊎-elim, _≢_, _↔_}
 use Prim.Native.Nat.{ℕ, suc, _+_, _<_, _≤_}
 use native.Mathlib.Decide.{ℕ-discrete, decLt}
 use native.Mathlib.Omega.{arith}
-use lib.ListN.{length, getD, set, replicate, length-set, length-replicate}
+use lib.ListN.{length, getD, replicate, length-set, length-replicate}
 use lib.Seq.{getD-set-same, getD-set-other}
 use Rattle.ccsk.specs.Term.{Key}
 use Rattle.ccsk.proofs.Basic.{never}
 use Rattle.ccsk.proofs.Lists.{getD-zeros}
 use Rattle.format.specs.Limits.{node-limit}
-use Rattle.filing.specs.Cabinet.{Cabinet, cabinet, Sized, Empty, Link, drawer, InDrawer, Latest, Filed, Files, none, one}
+use Rattle.filing.specs.Cabinet.{Cabinet, cabinet, with-link, Sized, Empty, Link, drawer, InDrawer, Latest, Filed, Files, none, one}
 
 -- The cabinet is in order and holds n links, numbered from 1 on.
 pub record Holding (x : Cabinet) (n : ℕ) : Type 0 where
@@ -52,7 +52,7 @@ link-none x E m k l = never (l .1) (sym (l .2) ∙ E .upper (l .0))
 
 module _ (x : Cabinet) (n : ℕ) (u k : Key) (H : Holding x n) (g : n < node-limit) (p : 0 < u) where
   abbrev after : Cabinet
-  after = cabinet (set (x .upper) (n + 1) u) (set (x .lower) (n + 1) k) (set (x .older) (n + 1) (getD (x .latest) (drawer u) 0)) (set (x .latest) (drawer u) (n + 1))
+  after = with-link x (n + 1) u k
 
   size : Sized x
   size = H .filed .sized
@@ -111,7 +111,7 @@ module _ (x : Cabinet) (n : ℕ) (u k : Key) (H : Holding x n) (g : n < node-lim
         none = λ i q r z. L .none i q (omega arith) (came (drawer u) i (λ e. omega arith) z);
       }
 
-  pub holding-more : Holding after (n + 1)
+  holding-more : Holding after (n + 1)
   holding-more = record {
     filed = record {
       sized = record { upper = rw length-set (size .upper); lower = rw length-set (size .lower); older = rw length-set (size .older); latest = rw length-set (size .latest) };
@@ -134,7 +134,7 @@ module _ (x : Cabinet) (n : ℕ) (u k : Key) (H : Holding x n) (g : n < node-lim
           (kept (drawer (getD (x .upper) i 0)) i _ (inl (omega (arith, few i r))) (H .filed .older i r))
 
   -- the links are the old ones and the new one
-  pub link-more : (m j : Key) → Link after m j ↔ (Link x m j ⊎ ((m ≡ u) × (j ≡ k)))
+  link-more : (m j : Key) → Link after m j ↔ (Link x m j ⊎ ((m ≡ u) × (j ≡ k)))
   link-more m j = (λ l. there l (ℕ-discrete (l .0) (n + 1)), back)
     where
       lower-new : getD (after .lower) (n + 1) 0 ≡ k

@@ -116,7 +116,8 @@ module _ (s : List ℕ) (x : Cabinet) (ups : List ℕ) (many at n : ℕ) (h : at
     exact = links-on;
   }
 
--- Up to the place `at` the bytes s were read and links were filed, n of them. If s is a record, they are its links, and it is known whether m was met.
+-- Up to the place `at` the bytes s were read and links were filed, n of them. If s is a record, they are the links to its nodes before `at`,
+-- and `met` tells whether m is among the keys of those.
 pub record Passing (s : List ℕ) (m : Key) (x : Cabinet) (due ups : List ℕ) (many left at n : ℕ) (met : Bool) : Type 0 where
   pub remains : Remains s due many left at
   pub holding : Holding x n
@@ -135,8 +136,8 @@ start s m x due l d E = record {
 }
 
 -- a prefix's key ends within the record
-pub key-within : {s : List ℕ} {at kind children next : ℕ} → NodeAt s at kind children next → getD s at 0 ≡ 1 → at + 3 < length s
-key-within {kind = kind} N e = let z : bodyLength kind ≡ 3 = ap bodyLength (N .byte ∙ e) in omega (arith, N .ends, N .within, z)
+pub key-inside : {s : List ℕ} {at kind children next : ℕ} → NodeAt s at kind children next → getD s at 0 ≡ 1 → at + 3 < length s
+key-inside {kind = kind} N e = let z : bodyLength kind ≡ 3 = ap bodyLength (N .byte ∙ e) in omega (arith, N .ends, N .within, z)
 
 -- the next node is passed
 module _ (s : List ℕ) (m : Key) (x : Cabinet) (due ups : List ℕ) (many left at n : ℕ) (met : Bool) (P : Passing s m x due ups many left at n met) (g : 0 < many)

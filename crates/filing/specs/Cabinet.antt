@@ -1,4 +1,4 @@
--- Links from key to key in four columns. They are numbered from 1, and 0 is none. Each is filed in the drawer of its upper key.
+-- Links from a key to one right below it, in four columns. The links are numbered from 1; 0 is none. Each is filed in the drawer of its upper key.
 use mathlib.Core.Path.{_≡_}
 use mathlib.Core.Logic.{_⊎_}
 use mathlib.Core.List.{List}
@@ -18,7 +18,7 @@ pub record Cabinet : Type 0 where
 abbrev pub cabinet : List ℕ → List ℕ → List ℕ → List ℕ → Cabinet
 cabinet us ls os ds = record { upper = us; lower = ls; older = os; latest = ds }
 
--- there is a place for each node that a record may have, and for link 0; and there are as many drawers
+-- each column of links has a place for link 0 and one for each node that a record may have; there are as many drawers as such nodes
 pub record Sized (x : Cabinet) : Type 0 where
   pub upper : length (x .upper) ≡ suc node-limit
   pub lower : length (x .lower) ≡ suc node-limit
@@ -35,7 +35,8 @@ pub record Empty (x : Cabinet) : Type 0 where
 abbrev pub Link : Cabinet → Key → Key → Type 0
 Link x m n = (i : ℕ) × (0 < m) × (getD (x .upper) i 0 ≡ m) × (getD (x .lower) i 0 ≡ n)
 
--- The drawer of a key. Keys in a row have drawers of their own, and so have keys that lie as far apart as there are drawers.
+-- The drawer of a key. Keys less than 3,839 apart have different drawers, and so have keys that differ by a multiple of the number of drawers.
+-- No more than 16 keys share a drawer.
 abbrev pub drawer : Key → ℕ
 drawer k = (k + k / node-limit * 257) % node-limit
 
@@ -56,7 +57,12 @@ pub record Filed (x : Cabinet) : Type 0 where
   pub latest : (b : ℕ) → b < node-limit → Latest x b (suc node-limit) (getD (x .latest) b 0)
   pub older : (i : ℕ) → 0 < getD (x .upper) i 0 → Latest x (drawer (getD (x .upper) i 0)) i (getD (x .older) i 0)
 
--- After n links, one more from u to k is filed, unless one of them is 0: there are r links then.
+-- the cabinet with link i, from u down to k, as the latest of its drawer
+abbrev pub with-link : Cabinet → ℕ → Key → Key → Cabinet
+with-link x i u k =
+    cabinet (set (x .upper) i u) (set (x .lower) i k) (set (x .older) i (getD (x .latest) (drawer u) 0)) (set (x .latest) (drawer u) i)
+
+-- After n links, one more from u to k is filed, unless u or k is 0 and no key: there are r links then.
 pub data Files (n : ℕ) (u k : Key) (x : Cabinet) : Cabinet → ℕ → Type 0 where
   none : (u ≡ 0) ⊎ (k ≡ 0) → Files n u k x x n
-  one : 0 < u → 0 < k → Files n u k x (cabinet (set (x .upper) (n + 1) u) (set (x .lower) (n + 1) k) (set (x .older) (n + 1) (getD (x .latest) (drawer u) 0)) (set (x .latest) (drawer u) (n + 1))) (n + 1)
+  one : 0 < u → 0 < k → Files n u k x (with-link x (n + 1) u k) (n + 1)

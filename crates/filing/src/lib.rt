@@ -1,4 +1,5 @@
-// The links of a record, from a key to the keys right below its prefixes, filed so that the links of a key are found without a search.
+// The links of a record, from a key to the keys right below its prefixes, filed in drawers, so that few others are looked at on the way to
+// the links of a key.
 // Helpers between crates, with what each asks of its caller.
 use keys::key_at;
 use reader::DEPTH;
@@ -18,7 +19,7 @@ ghost use Rattle.filing.specs.Record.{below, Pushed, MetBy, FilesAll};
 // A place for each link that a record may have, one for each node; the first place stands for no link.
 pub const LINKS: usize = NODES + 1;
 
-// How far apart the drawers of keys are that lie as far apart as there are drawers.
+// Keys that differ by NODES have drawers that lie this far apart: keys numbered in steps of NODES do not all meet in one drawer.
 const SHIFT: usize = 257;
 
 // What filing a record comes to, for a key that was asked for: the bytes are refused, the key does not stand there, or it does.

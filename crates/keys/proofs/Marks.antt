@@ -13,7 +13,7 @@ use Rattle.ccsk.specs.Numbers.{In, distinct}
 use Rattle.ccsk.specs.Term.{Key, done}
 use Rattle.ccsk.proofs.Lists.{in-left, distinct-length}
 use Rattle.keyset.specs.Set.{member, added, Added}
-use Rattle.keyset.proofs.Sets.{empty-member, length-added, added-old, added-same, added-other}
+use Rattle.keyset.proofs.Sets.{gain-few, empty-member, length-added, added-old, added-same, added-other}
 use Rattle.keyset.proofs.Counts.{Members}
 use Rattle.keys.specs.Gather.{Holds, Marked}
 use Rattle.keys.proofs.Distinct.{snoc, in-snoc, snoc-last, distinct-snoc-new, distinct-snoc-old}
@@ -78,11 +78,7 @@ module _ (m : List ℕ) (k : Key) (h : k < 65536) (m′ : List ℕ) (r : ℕ) (A
       pick false e = (holds-new m l H k h, omega (arith, distinct-snoc-new k l (λ i. not-both (H .exact k h .1 i) e)))
 
   pub mark-added : (k ≡ 0 → ⊥) → Marked m k m′ r
-  mark-added p = record { one = rw (A .gain) (gain (member m k)); more = λ l H. rw (done-one k p) (put-in l H) }
-    where
-      gain : (b : Bool) → cond b 0 1 ≤ 1
-      gain true = omega arith
-      gain false = omega arith
+  mark-added p = record { one = gain-few A; more = λ l H. rw (done-one k p) (put-in l H) }
 
 -- The keys of a column before place i are in the set m, and n of them are different.
 abbrev pub Front : List ℕ → ℕ → List ℕ → ℕ → Type 0

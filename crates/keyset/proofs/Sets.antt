@@ -2,14 +2,14 @@
 use mathlib.Core.Path.{_≡_, refl}
 use mathlib.Core.Logic.{_≢_}
 use mathlib.Core.List.{List}
-use mathlib.Core.Bool.{Bool, true, false}
-use Prim.Native.Nat.{ℕ, _+_, _*_, _<_, _/_, _%_}
+use mathlib.Core.Bool.{Bool, true, false, cond}
+use Prim.Native.Nat.{ℕ, _+_, _*_, _<_, _≤_, _/_, _%_}
 use native.Mathlib.Decide.{ℕ-discrete}
 use native.Mathlib.Omega.{arith}
 use borrow.Author.Tests.{eqb-false}
 use lib.ListN.{length, getD, set, replicate, length-set, getD-replicate}
 use lib.Seq.{getD-set-same, getD-set-other}
-use Rattle.keyset.specs.Set.{bit, power, member, added}
+use Rattle.keyset.specs.Set.{bit, power, member, added, Added}
 use Rattle.keyset.proofs.Bits.{bit-two, bit-set, bit-kept, full-bit, empty-bit}
 
 -- nothing is in the empty set
@@ -74,3 +74,11 @@ added-other s k j h n = pick (member s k) refl
 pub full-member : (s : List ℕ) (i k : ℕ) → getD s i 0 ≡ 255 → k / 8 ≡ i → member s k ≡ true
 unfolding member
 full-member s i k e q = rw (q, e, full-bit (k % 8) (omega arith))
+
+-- at most one number more
+pub gain-few : {s s′ : List ℕ} {k r : ℕ} → Added s k s′ r → r ≤ 1
+gain-few {s} {k = k} A = rw (A .gain) (one-or-none (member s k))
+  where
+    one-or-none : (b : Bool) → cond b 0 1 ≤ 1
+    one-or-none true = omega arith
+    one-or-none false = omega arith

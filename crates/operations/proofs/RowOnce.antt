@@ -84,7 +84,7 @@ waits-key t m k h w = has-in k t h (chain-ends t (w .1) .1 .1)
 unfoldable pub awaited : Term → Key → List Key
 awaited t m = pass (WaitsFor t m) (waits? t m) (keys t)
 
-pub awaited-listed : (t : Term) (m : Key) → Lists (WaitsFor t m) (awaited t m)
+awaited-listed : (t : Term) (m : Key) → Lists (WaitsFor t m) (awaited t m)
 unfolding awaited
 awaited-listed t m = lists-some (WaitsFor t m) (waits? t m) (keys t) (waits-key t m)
 

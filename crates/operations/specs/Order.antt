@@ -36,7 +36,7 @@ pub record FirstFrom (t : Term) (p q p′ q′ : Node) (l : Label) : Type 0 wher
   pub after : AtOrAfter p q p′ q′
   pub least : (p″ q″ : Node) (l″ : Label) → AtOrAfter p q p″ q″ → FreeStep t p″ q″ l″ → AtOrAfter p′ q′ p″ q″
 
--- The key m waits for n: n is another key, and a chain leads from m to it, each link from a key to one below a prefix that holds it
--- (02, [5]; the order of 004, Definition 3.3, closed over chains).
+-- The key m waits for n: n is another key, and a chain leads from m to n. One link goes from a key to another that stands below a prefix
+-- holding the first (02, [5]; 004, Definition 3.1: the order on keys, here without the key itself).
 abbrev pub WaitsFor : Term → Key → Key → Type 0
 WaitsFor t m n = (n ≢ m) × Chain (Before t) m n

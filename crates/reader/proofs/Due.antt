@@ -113,7 +113,7 @@ module _ (s : List ℕ) where
         many-inside = omega (arith, split .0, stacked-length (many - 1) levels, D .levels)
 
         -- the node gives way to its children, which have a level less
-        pub goes-on : (v : ℕ) → v ≡ getD levels (many - 1) 0 - 1 → Remains s (set (set levels (many - 1) v) many v) (many - 1 + children) (left - 1) next
+        goes-on : (v : ℕ) → v ≡ getD levels (many - 1) 0 - 1 → Remains s (set (set levels (many - 1) v) many v) (many - 1 + children) (left - 1) next
         goes-on v e = record {
           same = rw new (sym (ap (λ r. after r (readAll (stacked (many - 1) levels))) (read-under s at _ left kind children next D)
               ∙ under-all s at _ (left - 1) (drop next s) (stacked (many - 1) levels) kind (D .good .known)) ∙ ahead);

@@ -1,4 +1,4 @@
--- Condition 7 through a step: an undo takes edges away, a forward step adds edges that only end in its key.
+-- Condition 7 through a step: an undo takes links away, a forward step adds links that only end in its key.
 use mathlib.Core.Path.{refl}
 use mathlib.Core.Logic.{inl, inr, _≢_, _↔_}
 use Prim.Native.Nat.{ℕ, _<_}
@@ -7,7 +7,7 @@ use Rattle.ccsk.specs.Step.{Undo, Undo.top, Undo.prefix, Undo.choice₁, Undo.c
 use Rattle.sound.specs.Sound.{Above, Before, Chain, one, more, Ordered}
 use Rattle.ccsk.proofs.Basic.{never, std-has, has?}
 use Rattle.ccsk.proofs.Undo.{absent, has-kept}
-use Rattle.sound.proofs.Chains.{first, final}
+use Rattle.sound.proofs.Chains.{first, final, chain-map}
 
 pub has-undo : {t u : Term} {m l : ℕ} (n : ℕ) → Undo t m l u → 0 < n → Has n u → Has n t
 has-undo {t} n d p i = pick (has? n t)
@@ -100,10 +100,9 @@ last y (synch c d e) q (inr i) = last y e q i
 last y (restrict f d) q i = last y d q i
 
 chain-undo : {t u : Term} {m l x z : ℕ} → Undo t m l u → Chain (Before u) x z → Chain (Before t) x z
-chain-undo d (one {m = x} {n = y} b) = one (b .0, b .1, b .2, above-undo x y d (b .0) (b .1) (b .3))
-chain-undo d (more {k = x} {n = y} c b) = more (chain-undo d c) (b .0, b .1, b .2, above-undo x y d (b .0) (b .1) (b .3))
+chain-undo d = chain-map (λ x y b. (b .0, b .1, b .2, above-undo x y d (b .0) (b .1) (b .3)))
 
--- the source of an edge is not the key of the undo
+-- the upper key of a link is not the key of the undo
 source : {t u : Term} {m l x y : ℕ} → Undo t m l u → Before t x y → x ≢ m
 source {t} {m = m} {x = x} {y = y} d b e = last y d (b .1) (rw e at (b .3))
 

@@ -18,7 +18,7 @@ use Rattle.ccsk.proofs.Keys.{std-keys, distinct-undo}
 use Rattle.sound.proofs.Kept.{sound-undo, sound-redo, std-sound, reach-sound}
 use Rattle.sound.proofs.Derive.{UndoWith, Last, undo-one, undo-two}
 use Rattle.sound.proofs.Top.{top-key}
-use Rattle.sound.proofs.Order.{last, no-chain, chain-redo}
+use Rattle.sound.proofs.Order.{no-chain, chain-redo}
 
 -- in a sound term a key with no other below it can be undone
 pub undo-last : (t : Term) (m : ℕ) → Sound t → 0 < m → Has m t → Last m t → (l : ℕ) × UndoWith t m l
@@ -38,10 +38,6 @@ undo-some t s = pick (std-or-key t)
     pick (inl x) = inl x
     pick (inr i) = let p = top-key t (i .0) (s .ordered) (i .1) (i .2) in
         let d = undo-last t (p .0) s (p .1) (p .2) (λ n q e a. p .3 n (p .1, q, (λ z. e (sym z)), a)) in inr (p .0, d .0, d .1)
-
--- the undo of a key is possible exactly if no other stands below it
-pub undo-iff-last : (t : Term) (m : ℕ) → Sound t → 0 < m → Has m t → ((l : ℕ) × UndoWith t m l) ↔ Last m t
-undo-iff-last t m s h i = (λ d n p e. last n (d .1 .1) p, undo-last t m s h i)
 
 stand : (t : Term) → Std t → Run (blank t) t
 stand t s = rw (std-blank t s) Run.stay

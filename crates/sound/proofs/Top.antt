@@ -1,4 +1,4 @@
--- In a term without a cycle some key has no other key below it.
+-- The order on keys and its chains can be decided; in a term without a cycle some key has no other key below it.
 use Prim.Native.Nat.{ℕ, _<_}
 use native.Mathlib.Decide.{ℕ-discrete, decLt}
 use Rattle.ccsk.specs.Numbers.{In, either}
@@ -28,11 +28,11 @@ pick (yes a) (yes b) (no c) (yes d) = yes (a, b, c, d)
 unfoldable pub before? : (t : Term) (m n : ℕ) → Dec (Before t m n)
 before? t m n = pick (decLt 0 m) (decLt 0 n) (ℕ-discrete m n) (above? m n t)
 
--- the lower end of an edge is a key of the term
+-- the lower key of a link is a key of the term
 pub before-low : (t : Term) (m n : ℕ) → Before t m n → In n (keys t)
 before-low t m n b = has-in n t (b .1) (above-low m n t (b .3))
 
--- a chain of edges can be decided
+-- a chain of links can be decided
 unfoldable pub chained? : (t : Term) (m n : ℕ) → Dec (Chain (Before t) m n)
 chained? t = chain? (Before t) (before? t) (keys t) (before-low t)
 

@@ -20,8 +20,8 @@ use Rattle.filing.specs.Cabinet.{Cabinet}
 use Rattle.filing.specs.declared.Found.{Found}
 use Rattle.filing.specs.declared.Found.the-variants.{Refused, Absent, Standing}
 use Rattle.filing.specs.Record.{Stands, AllFiled, FilesAll}
-use Rattle.chains.specs.Reach.{Closed}
-use Rattle.waiting.specs.Listed.{ToKeys, LeadsTo, Listed}
+use Rattle.chains.specs.Reach.{LeadsTo, Closed}
+use Rattle.waiting.specs.Listed.{ToKeys, Listed}
 
 -- what filing comes to, once its case is known
 module _ (s : List ℕ) (m : Key) (x : Cabinet) (r : Found) (F : FilesAll s m x r) where

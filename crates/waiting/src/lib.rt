@@ -34,7 +34,7 @@ fn list_reached(
     rows::fill(&marks, many, row)
 }
 
-// The waiting list of a key.
+// The waiting list of a key that is not 0.
 fn list_waiting(bytes: &[u8], key: u16, row: &mut [u16]) -> Number
     requires { ⌜ 0 < key ⌝ }
     ensures { λ r. ⌜ WaitingList (now (bytes .entry)) key (now (row .entry)) (refusal r) (value r) (now (row .exit)) ⌝ }
@@ -50,7 +50,7 @@ fn list_waiting(bytes: &[u8], key: u16, row: &mut [u16]) -> Number
     }
 }
 
-// Key 0 is refused, after bytes that are no record.
+// Key 0 is refused, unless the bytes are no record: that refusal comes first.
 fn refuse_zero(bytes: &[u8]) -> Number
     ensures { λ r. ⌜ ((row : List ℕ) → WaitingList (now (bytes .entry)) 0 row (refusal r) (value r) row) ⌝ }
 {

@@ -2,7 +2,7 @@
 use borrow.Author.Needs.{needs}
 use native.Mathlib.Omega.{arith}
 use Rattle.chains.specs.Reach.{other, asked, meets}
-use Rattle.chains.proofs.Meeting.{gain-few}
+use Rattle.keyset.proofs.Sets.{gain-few}
 use Rattle.chains.proofs.meet.Statement.{statement}
 use Rattle.chains.proofs.meet.Tie as tie
 

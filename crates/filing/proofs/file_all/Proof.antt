@@ -6,7 +6,7 @@ use Rattle.reader.proofs.Whole.{slice-bytes}
 use Rattle.reader.proofs.Due.{more-bytes, pass-refused, pass-good}
 use Rattle.filing.specs.Cabinet.{cabinet}
 use Rattle.filing.specs.Record.{Stands}
-use Rattle.filing.proofs.Filling.{Passing, start, onward, key-within, stack-room, children-few, link-room, told, all-filed}
+use Rattle.filing.proofs.Filling.{Passing, start, onward, key-inside, stack-room, children-few, link-room, told, all-filed}
 use Rattle.filing.proofs.file_all.Statement.{statement}
 use Rattle.filing.proofs.file_all.Tie as tie
 
@@ -45,7 +45,7 @@ enum-known-children : tie.Need-enum-known-children Inv-loop μ-loop
 enum-known-children c = search needs
 
 key-at-requires : tie.Need-key-at-requires Inv-loop μ-loop
-key-at-requires c κs = ((pass-good (c .before .before .before .before .before .before .before .before .before .before .before .before .before .before .args .bytes .now) (c .before .before .before .before .before .before .before .before .loop .at) (c .before .before .before .before .before .before .before .before .loop .left) (c .before .before .before .before .before .before .before .before .loop .many) (c .before .before .before .pass-node .result) _ (c .before .before .before .pass-node .ensures) _ _ _ (c .before .children .given .1)) .inside, key-within ((pass-good (c .before .before .before .before .before .before .before .before .before .before .before .before .before .before .args .bytes .now) (c .before .before .before .before .before .before .before .before .loop .at) (c .before .before .before .before .before .before .before .before .loop .left) (c .before .before .before .before .before .before .before .before .loop .many) (c .before .before .before .pass-node .result) _ (c .before .before .before .pass-node .ensures) _ _ _ (c .before .children .given .1)) .good))
+key-at-requires c κs = ((pass-good (c .before .before .before .before .before .before .before .before .before .before .before .before .before .before .args .bytes .now) (c .before .before .before .before .before .before .before .before .loop .at) (c .before .before .before .before .before .before .before .before .loop .left) (c .before .before .before .before .before .before .before .before .loop .many) (c .before .before .before .pass-node .result) _ (c .before .before .before .pass-node .ensures) _ _ _ (c .before .children .given .1)) .inside, key-inside ((pass-good (c .before .before .before .before .before .before .before .before .before .before .before .before .before .before .args .bytes .now) (c .before .before .before .before .before .before .before .before .loop .at) (c .before .before .before .before .before .before .before .before .loop .left) (c .before .before .before .before .before .before .before .before .loop .many) (c .before .before .before .pass-node .result) _ (c .before .before .before .pass-node .ensures) _ _ _ (c .before .children .given .1)) .good))
 
 sub-up : tie.Need-sub-up Inv-loop μ-loop
 sub-up c = c .before .before .before .before .before .before .before .before .loop-test .taken
