@@ -1,19 +1,19 @@
 -- Going through a record from node to node and filing its links.
-use mathlib.Core.Path.{_≡_, refl, ap, subst, _∙_}
+use mathlib.Core.Path.{_≡_, refl, sym, ap, subst, _∙_}
 use mathlib.Core.Logic.{_⊎_, inl, inr, ⊎-elim, _↔_}
-use mathlib.Core.List.{List, [], _∷_}
+use mathlib.Core.List.{List, [], _∷_, _++_, append-assoc, append-nil}
 use mathlib.Core.Bool.{Bool, false}
 use Prim.Native.Nat.{ℕ, suc, _+_, _-_, _≤_, _<_}
 use native.Mathlib.Omega.{arith}
 use lib.ListN.{length, getD, replicate, length-replicate}
-use Rattle.ccsk.specs.Term.{Term, Key}
+use Rattle.ccsk.specs.Term.{Term, Key, keys, done}
 use Rattle.ccsk.proofs.Lists.{getD-zeros}
 use Rattle.causes.specs.Nearest.{RightAbove}
 use Rattle.format.specs.Limits.{node-limit, depth-limit}
-use Rattle.format.specs.Flat.{after, headKind, headKey, Due, keyAt}
+use Rattle.format.specs.Flat.{keysOf, after, headKind, headKey, Due, keyAt}
 use Rattle.format.specs.Encode.{Bytes}
 use Rattle.format.specs.Kinds.{bodyLength, childCount}
-use Rattle.format.proofs.Flat.{key-here, kind-here, due-after, children-due, all-due}
+use Rattle.format.proofs.Flat.{key-here, kind-here, due-after, children-due, all-due, keys-head, keys-one, keys-none}
 use Rattle.reader.specs.Head.{NodeAt}
 use Rattle.reader.specs.Due.{stacked, push, Remains, Passed}
 use Rattle.reader.proofs.Stack.{stacked-top}
@@ -25,48 +25,53 @@ use Rattle.filing.specs.Cabinet.{Cabinet, Empty, Link, Files}
 use Rattle.filing.specs.Record.{below, Pushed, MetBy, AllFiled, Stands}
 use Rattle.filing.proofs.Drawers.{Holding, holding-none, link-none, holding-filed, link-filed, filed-few}
 use Rattle.filing.proofs.Terms.{LinksOf, HeadLink, links-after, links-none}
-use Rattle.filing.proofs.Standing as standing
-use Rattle.filing.proofs.Standing.{Meeting}
+use Rattle.filing.proofs.Standing.{Tells, tells-more, stands}
 
--- Up to the place `at` of the record s its links were filed. The stack has a key for each term that is due, the one right above it.
-pub record Filling (s : List ℕ) (x : Cabinet) (ups : List ℕ) (many at : ℕ) : Type 0 where
+-- Up to the place `at` of the record s its links were filed, and `met` tells whether m was met. The stack has a key for each term that is due,
+-- the one right above it.
+pub record Filling (s : List ℕ) (m : Key) (x : Cabinet) (ups : List ℕ) (many at : ℕ) (met : Bool) : Type 0 where
   pub of : Term
   pub whole : RecordOf s of
   pub terms : List Term
   pub due : Due s at terms
   pub tall : many ≡ length terms
-  pub exact : (m k : Key) → RightAbove 0 of m k ↔ (Link x m k ⊎ LinksOf (stacked many ups) terms m k)
+  pub exact : (j k : Key) → RightAbove 0 of j k ↔ (Link x j k ⊎ LinksOf (stacked many ups) terms j k)
+  pub past : List Key
+  pub all : past ++ keysOf terms ≡ keys of
+  pub tells : Tells m past met
 
-filling-none : (s : List ℕ) (x : Cabinet) → Empty x → Readable s → Filling s x (replicate 257 0) 1 0
-filling-none s x E R = record {
+filling-none : (s : List ℕ) (m : Key) (x : Cabinet) → Empty x → Readable s → Filling s m x (replicate 257 0) 1 0 false
+filling-none s m x E R = record {
   of = R .0;
   whole = R .1;
   terms = R .0 ∷ [];
   due = all-due s (R .0) (R .1 .bytes);
   tall = refl;
-  exact = λ m k. rw (getD-zeros 257 0) (λ i. inr (inl i), λ i. ⊎-elim (λ l. absurd (link-none x E m k l)) (λ l. ⊎-elim (λ z. z) (λ z. absurd z) l) i);
+  exact = λ j k. rw (getD-zeros 257 0) (λ i. inr (inl i), λ i. ⊎-elim (λ l. absurd (link-none x E j k l)) (λ l. ⊎-elim (λ z. z) (λ z. absurd z) l) i);
+  past = [];
+  all = keys-one (R .0);
+  tells = λ i. i;
 }
 
 -- no term is due any more
-filling-all : (s : List ℕ) (x : Cabinet) (ups : List ℕ) (many at n : ℕ) → many ≡ 0 → Holding x n → Filling s x ups many at → AllFiled s x
-filling-all s x ups many at n z H P = (
-  H .filed,
-  (
-    P .of,
-    P .whole,
-    λ m k. let w = P .exact m k in
-        (λ l. w .1 (inl l), λ i. ⊎-elim (λ l. l) (λ l. absurd (links-none (stacked many ups) m k (subst (λ (ts : List Term). LinksOf (stacked many ups) ts m k) (none (P .terms) (P .tall)) l))) (w .0 i)),
-  ),
-)
-  where
-    none : (ts : List Term) → many ≡ length ts → ts ≡ []
-    none [] e = refl
-    none (t ∷ ts) e = absurd (omega arith)
+module _ (s : List ℕ) (m : Key) (x : Cabinet) (ups : List ℕ) (many at : ℕ) (met : Bool) (P : Filling s m x ups many at met) (z : many ≡ 0) where
+  none-left : P .terms ≡ []
+  none-left = none (P .terms) (P .tall)
+    where
+      none : (ts : List Term) → many ≡ length ts → ts ≡ []
+      none [] e = refl
+      none (t ∷ ts) e = absurd (omega arith)
+
+  filling-links : (j k : Key) → Link x j k ↔ RightAbove 0 (P .of) j k
+  filling-links j k = let w = rw none-left at (P .exact j k) in (λ l. w .1 (inl l), λ i. ⊎-elim (λ l. l) (λ l. absurd (links-none (stacked many ups) j k l)) (w .0 i))
+
+  filling-tells : Tells m (keys (P .of)) met
+  filling-tells = subst (λ (l : List Key). Tells m l met) (sym (append-nil (P .past)) ∙ rw (none-left, keys-none) at (P .all)) (P .tells)
 
 -- one node more, which holds the key k, below the key u
-module _ (s : List ℕ) (x : Cabinet) (ups : List ℕ) (many at n : ℕ) (h : at < length s) (g : 0 < many) (H : Holding x n) (f : n < node-limit) (k : Key) (q : k ≡ keyAt s at)
+module _ (s : List ℕ) (m : Key) (x : Cabinet) (ups : List ℕ) (many at n : ℕ) (met : Bool) (h : at < length s) (g : 0 < many) (H : Holding x n) (f : n < node-limit) (k : Key) (q : k ≡ keyAt s at)
     (u : Key) (e : u ≡ getD ups (many - 1) 0) (y : Cabinet) (r : ℕ) (F : Files n u k x y r) (b : ℕ) (d : b ≡ getD s at 0) (ups′ : List ℕ) (many′ : ℕ)
-    (G : Pushed ups many (below u k) (childCount b) ups′ many′) (P : Filling s x ups many at) where
+    (met′ : Bool) (M : MetBy met k m met′) (p : 0 < m) (G : Pushed ups many (below u k) (childCount b) ups′ many′) (P : Filling s m x ups many at met) where
   kind : b ≡ headKind (P .terms)
   kind = d ∙ kind-here s at (P .terms) (P .due) h
 
@@ -83,30 +88,30 @@ module _ (s : List ℕ) (x : Cabinet) (ups : List ℕ) (many at n : ℕ) (h : at
   stack = G .stack u (stacked (many - 1) ups) top
 
   -- the first node's link is filed, and those below it are due
-  links-on : (m j : Key) → RightAbove 0 (P .of) m j ↔ (Link y m j ⊎ LinksOf (stacked many′ ups′) (after (P .terms)) m j)
-  links-on m j = rw (stack, kind, key) (λ i. there (w .0 i), λ i. w .1 (back i))
+  links-on : (o j : Key) → RightAbove 0 (P .of) o j ↔ (Link y o j ⊎ LinksOf (stacked many′ ups′) (after (P .terms)) o j)
+  links-on o j = rw (stack, kind, key) (λ i. there (w .0 i), λ i. w .1 (back i))
     where
-      w : RightAbove 0 (P .of) m j ↔ (Link x m j ⊎ LinksOf (u ∷ stacked (many - 1) ups) (P .terms) m j)
-      w = rw top at (P .exact m j)
+      w : RightAbove 0 (P .of) o j ↔ (Link x o j ⊎ LinksOf (u ∷ stacked (many - 1) ups) (P .terms) o j)
+      w = rw top at (P .exact o j)
 
-      l : Link y m j ↔ (Link x m j ⊎ HeadLink u (P .terms) m j)
-      l = rw key at (link-filed F H f m j)
+      l : Link y o j ↔ (Link x o j ⊎ HeadLink u (P .terms) o j)
+      l = rw key at (link-filed F H f o j)
 
-      c : LinksOf (u ∷ stacked (many - 1) ups) (P .terms) m j
-          ↔ (HeadLink u (P .terms) m j ⊎ LinksOf (push (childCount (headKind (P .terms))) (below u (headKey (P .terms))) (stacked (many - 1) ups)) (after (P .terms)) m j)
-      c = links-after u (stacked (many - 1) ups) (P .terms) some-due m j
+      c : LinksOf (u ∷ stacked (many - 1) ups) (P .terms) o j
+          ↔ (HeadLink u (P .terms) o j ⊎ LinksOf (push (childCount (headKind (P .terms))) (below u (headKey (P .terms))) (stacked (many - 1) ups)) (after (P .terms)) o j)
+      c = links-after u (stacked (many - 1) ups) (P .terms) some-due o j
 
-      there : Link x m j ⊎ LinksOf (u ∷ stacked (many - 1) ups) (P .terms) m j
-          → Link y m j ⊎ LinksOf (push (childCount (headKind (P .terms))) (below u (headKey (P .terms))) (stacked (many - 1) ups)) (after (P .terms)) m j
+      there : Link x o j ⊎ LinksOf (u ∷ stacked (many - 1) ups) (P .terms) o j
+          → Link y o j ⊎ LinksOf (push (childCount (headKind (P .terms))) (below u (headKey (P .terms))) (stacked (many - 1) ups)) (after (P .terms)) o j
       there (inl i) = inl (l .1 (inl i))
       there (inr i) = ⊎-elim (λ z. inl (l .1 (inr z))) inr (c .0 i)
 
-      back : Link y m j ⊎ LinksOf (push (childCount (headKind (P .terms))) (below u (headKey (P .terms))) (stacked (many - 1) ups)) (after (P .terms)) m j
-          → Link x m j ⊎ LinksOf (u ∷ stacked (many - 1) ups) (P .terms) m j
+      back : Link y o j ⊎ LinksOf (push (childCount (headKind (P .terms))) (below u (headKey (P .terms))) (stacked (many - 1) ups)) (after (P .terms)) o j
+          → Link x o j ⊎ LinksOf (u ∷ stacked (many - 1) ups) (P .terms) o j
       back (inl i) = ⊎-elim inl (λ z. inr (c .1 (inl z))) (l .0 i)
       back (inr i) = inr (c .1 (inr i))
 
-  filling-more : Filling s y ups′ many′ (at + (1 + bodyLength b))
+  filling-more : Filling s m y ups′ many′ (at + (1 + bodyLength b)) met′
   filling-more = record {
     of = P .of;
     whole = P .whole;
@@ -114,6 +119,9 @@ module _ (s : List ℕ) (x : Cabinet) (ups : List ℕ) (many at n : ℕ) (h : at
     due = due-after s at (P .terms) (P .due) h b d;
     tall = omega (arith, G .high, P .tall, g, children-due (P .terms) some-due, ap childCount kind);
     exact = links-on;
+    past = P .past ++ done k [];
+    all = rw (append-assoc, key, ← keys-head (P .terms)) (P .all);
+    tells = tells-more m k (P .past) met met′ p M (P .tells);
   }
 
 -- Up to the place `at` the bytes s were read and links were filed, n of them. If s is a record, they are the links to its nodes before `at`,
@@ -123,7 +131,7 @@ pub record Passing (s : List ℕ) (m : Key) (x : Cabinet) (due ups : List ℕ) (
   pub holding : Holding x n
   pub room : n + left ≤ node-limit
   pub long : length ups ≡ suc depth-limit
-  pub filling : Readable s → Filling s x ups many at × Meeting s m at met
+  pub filling : Readable s → Filling s m x ups many at met
 
 pub start : (s : List ℕ) (m : Key) (x : Cabinet) (due : List ℕ) → length due ≡ suc depth-limit → getD due 0 0 ≡ depth-limit → Empty x
     → Passing s m x due (replicate 257 0) 1 node-limit 0 0 false
@@ -132,7 +140,7 @@ start s m x due l d E = record {
   holding = holding-none x E;
   room = omega arith;
   long = length-replicate {A = ℕ} 257 0;
-  filling = λ R. (filling-none s x E R, standing.start s m R);
+  filling = filling-none s m x E;
 }
 
 -- a prefix's key ends within the record
@@ -158,10 +166,8 @@ module _ (s : List ℕ) (m : Key) (x : Cabinet) (due ups : List ℕ) (many left 
     holding = holding-filed F (P .holding) link-room;
     room = omega (arith, P .room, N .nodes, filed-few F);
     long = G .long ∙ P .long;
-    filling = λ R. let w = P .filling R in subst (λ (i : ℕ). Filling s y ups′ many′ i × Meeting s m i met′) ends (
-      filling-more s x ups many at n (N .inside) g (P .holding) link-room k q u e y r F kind (N .good .byte) ups′ many′ pushed (w .0),
-      standing.onward s m at met (w .1) (N .inside) p k q met′ M kind (N .good .byte),
-    );
+    filling = λ R. subst (λ (i : ℕ). Filling s m y ups′ many′ i met′) ends
+        (filling-more s m x ups many at n met (N .inside) g (P .holding) link-room k q u e y r F kind (N .good .byte) ups′ many′ met′ M p pushed (P .filling R));
   }
     where
       ends : at + (1 + bodyLength kind) ≡ next
@@ -175,8 +181,11 @@ module _ (s : List ℕ) (m : Key) (x : Cabinet) (due ups : List ℕ) (many left 
   readable : Readable s
   readable = was-read s (Is (node-limit - left)) (no-more-bytes s due many left at (P .remains) z B h) B (node-limit - left) refl
 
+  filled : Filling s m x ups many at met
+  filled = P .filling readable
+
   pub told : 0 < m → Stands s m met
-  told p = standing.stands s m at met (P .filling readable .1) h p
+  told p = stands s m (filled .of) (filled .whole) p met (filling-tells s m x ups many at met filled z)
 
   pub all-filed : AllFiled s x
-  all-filed = filling-all s x ups many at n z (P .holding) (P .filling readable .0)
+  all-filed = (P .holding .filed, (filled .of, filled .whole, filling-links s m x ups many at met filled z))
