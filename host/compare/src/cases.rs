@@ -1,7 +1,8 @@
 //! Which calls are made on a record: every operation, with numbers on both sides of what is allowed.
 
 use crate::call::{Call, Side};
-use crate::records::{Random, EDGE_KEYS};
+use crate::numbers::Random;
+use crate::records::EDGE_KEYS;
 
 /// One call of each operation.
 pub const ONE_OF_EACH: [Call; 11] = [

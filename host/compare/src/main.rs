@@ -3,6 +3,7 @@
 mod archive;
 mod call;
 mod cases;
+mod numbers;
 mod program;
 mod random;
 mod records;

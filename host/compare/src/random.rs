@@ -2,7 +2,8 @@
 
 use crate::call::{hex, Call, Outcome, Side};
 use crate::cases;
-use crate::records::{self, Random};
+use crate::numbers::Random;
+use crate::records;
 
 /// Stops at the first difference; true if there is none.
 pub fn check(cases: u64, seed: u64) -> bool {

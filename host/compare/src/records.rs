@@ -2,39 +2,8 @@
 
 use reference::{DEPTH_LIMIT, NODE_LIMIT};
 
+use crate::numbers::Random;
 use crate::shapes::{balanced, crossing, PARALLEL};
-
-/// A small generator of random numbers (splitmix64): the same seed gives the same records.
-pub struct Random(pub u64);
-
-impl Random {
-    pub fn next(&mut self) -> u64 {
-        self.0 = self.0.wrapping_add(0x9e37_79b9_7f4a_7c15);
-        let mut z = self.0;
-        z = (z ^ z >> 30).wrapping_mul(0xbf58_476d_1ce4_e5b9);
-        z = (z ^ z >> 27).wrapping_mul(0x94d0_49bb_1331_11eb);
-        z ^ z >> 31
-    }
-
-    /// A number from 0 to the one before `end`.
-    pub fn below(&mut self, end: usize) -> usize {
-        (self.next() % end as u64) as usize
-    }
-
-    pub fn percent(&mut self, chance: usize) -> bool {
-        self.below(100) < chance
-    }
-
-    pub fn pick<T: Copy>(&mut self, from: &[T]) -> T {
-        from[self.below(from.len())]
-    }
-
-    pub fn shuffle<T>(&mut self, list: &mut [T]) {
-        for at in 1..list.len() {
-            list.swap(at, self.below(at + 1));
-        }
-    }
-}
 
 /// Keys at the edges of their two bytes.
 pub const EDGE_KEYS: [u16; 9] = [1, 2, 255, 256, 257, 32767, 32768, 65534, 65535];
@@ -241,10 +210,12 @@ fn crossed(random: &mut Random) -> Vec<u8> {
 }
 
 /// Keys in any order of their numbers: one after the other, or such as leave the same remainder by 4,096 or 8,192.
+/// After 65535 they start over; 0 is no key and is left out.
 fn keys_in_any_order(random: &mut Random, count: usize) -> Vec<u16> {
     let (first, apart) = (random.pick(&[1, 1, 4090, 65535 - count]), random.pick(&[1, 1, 4096, 8192]));
     let round = (1 << 16) / apart;
-    let mut keys: Vec<u16> = (0..count).map(|at| (first + at % round * apart + at / round) as u16).collect();
+    let number = |at: usize| (first + at % round * apart + at / round) as u16;
+    let mut keys: Vec<u16> = (0..count).map(number).filter(|&key| key != 0).collect();
     match random.below(6) {
         0 => keys.reverse(),
         1 | 2 => random.shuffle(&mut keys),

@@ -2,8 +2,9 @@
 //! goes, all keys of its waiting list have gone.
 
 use crate::call::{hex, Call, Side};
+use crate::numbers::Random;
 use crate::random;
-use crate::records::{self, Random};
+use crate::records;
 
 /// True if every run comes to the blank form in as many undos as there are keys, and back to the same bytes.
 pub fn check(runs: u64, seed: u64) -> bool {
@@ -46,7 +47,7 @@ fn there_and_back(random: &mut Random, start: &[u8]) -> Result<u64, String> {
         }
         let key = random.pick(&listing.row[..allowed]);
         let waiting = ask(&Call::Waiting { key, row: 4096, fill: 0 }, start)?;
-        let gone = |key: &u16| taken.iter().any(|step: &Taken| step.key == *key);
+        let gone = |waited: &u16| taken.iter().any(|step: &Taken| step.key == *waited);
         if !waiting.row[..waiting.answer as usize].iter().all(gone) {
             return Err(format!("key {key} goes before its waiting list, after {} undos", taken.len()));
         }

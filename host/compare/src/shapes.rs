@@ -1,6 +1,6 @@
 //! Records of a given size in the shapes that are hard for one or another way of looking at a term.
 
-use crate::records::Random;
+use crate::numbers::Random;
 
 /// The name of a shape and how to build a record of that shape with about so many nodes, at most so many.
 pub type Shape = (&'static str, fn(usize) -> Vec<u8>);
@@ -22,7 +22,7 @@ pub const SHAPES: [Shape; 14] = [
     ("causal chain, backwards", backwards),
 ];
 
-/// More shapes for the waiting list alone: long lists, and keys that meet in a table.
+/// More shapes for the waiting list alone: long lists, rings, and keys that share a drawer.
 pub const CHAINS: [Shape; 8] = [
     ("chain, keys descending", |nodes| chain(nodes, 2, |keys| keys.reverse())),
     ("chain, keys shuffled", |nodes| chain(nodes, 2, |keys| Random(1).shuffle(keys))),
@@ -161,11 +161,12 @@ fn chain_pairs(nodes: usize) -> Vec<u8> {
 /// Each key above the next one, so many in a part; the last of a part is the first of the next. With two in a part:
 /// a'[k1].b[k2].0, b'[k2].a[k3].0 and so on.
 pub fn crossing(keys: &[u16], length: usize) -> Vec<Vec<u8>> {
-    let name = |key: u16| 1 + (key % 2) as u8;
+    let channel = |key: u16| 1 + (key % 2) as u8;
     let part = |from: usize| {
         let upper = keys[from];
         let lower = keys[from + 1..].iter().take(length - 1).rev();
-        prefix(name(upper) + 128, upper.into(), lower.fold(nil(), |rest, &key| prefix(name(key), key.into(), rest)))
+        let rest = lower.fold(nil(), |rest, &key| prefix(channel(key), key.into(), rest));
+        prefix(channel(upper) + 128, upper.into(), rest)
     };
     (0..keys.len() - 1).step_by(length - 1).map(part).collect()
 }

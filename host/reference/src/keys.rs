@@ -68,53 +68,71 @@ pub fn undo_listing(record: &[u8], row: &mut [u16]) -> Result<usize, Refusal> {
     fill(row, &keys)
 }
 
-/// The keys other than this one that chains lead to from it, ascending, into the row; answers how many. One link goes
-/// from a key to the keys below its prefixes. Only the nearest key above each is linked to it: those further up are
-/// linked to that one.
+/// The keys other than this one that chains lead to from it, ascending, into the row; answers how many.
 pub fn waiting(record: &[u8], key: u16, row: &mut [u16]) -> Result<usize, Refusal> {
-    // above[d]: the nearest key at depth d or above it on the way to the present node; 0 if there is none.
-    let mut above = [0u16; DEPTH_LIMIT + 1];
-    // Each link: the lower key, and one more than the place of the upper key's link before this one. A key with none
-    // above it is linked to 0, which no chain meets.
-    let mut links: Vec<(u16, u16)> = Vec::new();
-    // For each upper key one more than the place of its last link.
-    let mut last = vec![0u16; 1 << 16];
-    let mut stands = false;
-    scan(record, |node| {
-        let upper = above[node.depth - 1];
-        above[node.depth] = upper;
-        if node.key() != 0 {
-            above[node.depth] = node.key();
-            stands |= node.key() == key;
-            links.push((node.key(), last[upper as usize]));
-            last[upper as usize] = links.len() as u16;
-        }
-    })?;
+    let (links, stands) = Links::of(record, key)?;
     if key == 0 {
         return Err(KEY_ZERO);
     }
     if !stands {
         return Err(KEY_ABSENT);
     }
-    let mut met = KeySet::EMPTY;
-    met.add(key);
-    // The key itself, then every other one when it is first met.
-    let mut reached = vec![key];
-    let mut done = 0;
-    while let Some(&upper) = reached.get(done) {
-        done += 1;
-        let mut link = last[upper as usize];
-        while link != 0 {
-            let (lower, before) = links[link as usize - 1];
-            if met.add(lower) {
-                reached.push(lower);
-            }
-            link = before;
-        }
-    }
+    let mut reached = links.reached(key);
     let list = &mut reached[1..];
     list.sort_unstable();
     fill(row, list)
+}
+
+/// The links of a record: from each key to the keys right below its prefixes. Keys further down need no link from it:
+/// they are linked to those between.
+struct Links {
+    /// Each link: the lower key, and one more than the place of the upper key's link before this one. A key with none
+    /// above it is linked to 0, which no chain meets.
+    links: Vec<(u16, u16)>,
+    /// For each upper key one more than the place of its last link.
+    last: Vec<u16>,
+}
+
+impl Links {
+    /// The links of the record, and whether this key stands in it.
+    fn of(record: &[u8], key: u16) -> Result<(Links, bool), Refusal> {
+        // above[d]: the nearest key at depth d or above it on the way to the present node; 0 if there is none.
+        let mut above = [0u16; DEPTH_LIMIT + 1];
+        let mut links: Vec<(u16, u16)> = Vec::new();
+        let mut last = vec![0u16; 1 << 16];
+        let mut stands = false;
+        scan(record, |node| {
+            let upper = above[node.depth - 1];
+            above[node.depth] = upper;
+            if node.key() != 0 {
+                above[node.depth] = node.key();
+                stands |= node.key() == key;
+                links.push((node.key(), last[upper as usize]));
+                last[upper as usize] = links.len() as u16;
+            }
+        })?;
+        Ok((Links { links, last }, stands))
+    }
+
+    /// The key itself, then the others that chains lead to from it, in the order in which they are first met.
+    fn reached(&self, key: u16) -> Vec<u16> {
+        let mut met = KeySet::EMPTY;
+        met.add(key);
+        let mut reached = vec![key];
+        let mut done = 0;
+        while let Some(&upper) = reached.get(done) {
+            done += 1;
+            let mut link = self.last[upper as usize];
+            while link != 0 {
+                let (lower, before) = self.links[link as usize - 1];
+                if met.add(lower) {
+                    reached.push(lower);
+                }
+                link = before;
+            }
+        }
+        reached
+    }
 }
 
 /// The list goes to the front of the row; the rest of the row stays.
