@@ -51,8 +51,8 @@
  * Record and row belong to the caller. They are lent for the time of a call; no pointer is kept and nothing is
  * allocated. A pointer must be good for the length given with it; with length 0 any pointer will do, null too.
  * Record and row must not overlap.
- * Stack, on x86-64, at the deepest record: up to 4 KiB below read and node; 11 KiB below count, least_free, waiting
- * and blank; 50 KiB below forward and undo; 140 KiB below first, undo_listing and verdict.
+ * Stack, on x86-64, at the deepest record: up to 4 KiB below read and node; 11 KiB below count, least_free and blank;
+ * 50 KiB below forward, undo and waiting; 140 KiB below first, undo_listing and verdict.
  * The library has no state of its own: any number of threads may call it at once, each on a record (and row) that
  * no other thread uses during the call.
  */
