@@ -18,6 +18,8 @@ use Rattle.format.specs.Encode.{InRange, Fits, Bytes}
 use Rattle.format.proofs.Refusals.{decode-refusals}
 use Rattle.operations.specs.Change.{ForwardStep, UndoStep, BlankForm}
 use Rattle.operations.specs.Ask.{ReadRecord, KeyCount, FreeKey, FirstStep, Filled, short, filled, UndoListing, WaitingList, Soundness}
+use Rattle.operations.specs.TakeBack.{TakeBack}
+use Rattle.operations.proofs.InTurn.{turn-few}
 use Rattle.operations.proofs.Lists.{ascending-few, least-free-once}
 use Rattle.operations.proofs.FirstOnce.{place-bound}
 use Rattle.operations.proofs.RowOnce.{waits-key}
@@ -26,15 +28,15 @@ use Rattle.operations.proofs.Kept.{fits-undo}
 
 -- a refusal number with a number, with a label, and with mark, places and label
 abbrev pub SmallNumber : ℕ → ℕ → Type 0
-SmallNumber c n = (c ≤ 9) × (n ≤ suc node-limit)
+SmallNumber c n = (c ≤ 13) × (n ≤ suc node-limit)
 
 abbrev pub SmallStep : ℕ → Label → Type 0
-SmallStep c l = (c ≤ 9) × (l ≤ 255)
+SmallStep c l = (c ≤ 13) × (l ≤ 255)
 
 abbrev pub SmallFirst : ℕ → ℕ → Node → Node → Label → Type 0
-SmallFirst c n p q l = (c ≤ 9) × (n ≤ 1) × (p < node-limit) × (q < node-limit) × (l ≤ 255)
+SmallFirst c n p q l = (c ≤ 13) × (n ≤ 1) × (p < node-limit) × (q < node-limit) × (l ≤ 255)
 
-pub refused-small : (s : List ℕ) {c : ℕ} → Refuses s c → c ≤ 9
+pub refused-small : (s : List ℕ) {c : ℕ} → Refuses s c → c ≤ 13
 refused-small s {c} e = ⊎-elim (λ z. omega arith) (λ z. omega arith) (decode-refusals s c e)
 
 distinct-few : (t : Term) → Fits t → distinct (keys t) ≤ node-limit
@@ -55,7 +57,7 @@ filled-small : {l row row′ : List ℕ} {c n : ℕ} → length l ≤ node-limit
 filled-small h (short g) = omega arith
 filled-small h (filled g) = omega arith
 
-listed-few : (P : ℕ → Type 0) (t : Term) (l : List ℕ) → Fits t → Lists P l → ((k : Key) → 0 < k → P k → In k (keys t)) → length l ≤ node-limit
+pub listed-few : (P : ℕ → Type 0) (t : Term) (l : List ℕ) → Fits t → Lists P l → ((k : Key) → 0 < k → P k → In k (keys t)) → length l ≤ node-limit
 listed-few P t l f o h = omega (arith, ascending-few 0 l (keys t) (o .0) (λ k i. let p = o .1 k .0 i in h k (p .0) (p .1)), distinct-few t f)
 
 -- the label of a step of a term within the limits is a byte
@@ -125,3 +127,11 @@ module _ (s : List ℕ) (B : Bytes s) where
   first-small (FirstStep.found {t} {p′} {q′} e f) =
       let w = f .step in let i = read-fits s B e in let h = place-bound t (w .0) p′ q′ (w .2 .0) in
       omega (arith, h, i .nodes, forward-byte (i .range) (w .2 .0 .2), w .2 .1)
+
+  pub take-small : {m c n : ℕ} {row b row′ : List ℕ} → TakeBack s m row c n b row′ → SmallNumber c n
+  take-small (TakeBack.unreadable e) = (refused-small s e, omega arith)
+  take-small (TakeBack.key-zero e z) = omega arith
+  take-small (TakeBack.not-sound e h v z) = omega arith
+  take-small (TakeBack.key-absent e h v k) = omega arith
+  take-small (TakeBack.short l e h v k o g) = omega arith
+  take-small (TakeBack.done {t} e h v k i g) = omega (arith, turn-few i, distinct-few t (read-fits s B e))

@@ -15,6 +15,14 @@ pub mod Kept
 pub mod KeyPlaces
 pub mod Reversible
 pub mod Reachable
+pub mod OtherPlaces
+pub mod InTurn
+pub mod TakeBackOnce
+pub mod TakeBackSome
+pub mod TakenBack
+pub mod LeftStanding
+pub mod TakeBackFewest
+pub mod TakeBackExample
 pub mod Laws
 pub mod Bounds
 pub mod NodeBounds

@@ -74,6 +74,6 @@ one-small (suc n) (shown k b d ∷ l) h = one-small n l (h .1)
 pub term-node-small : (n : ℕ) (t : Term) → Fits t → SmallShown (take 1 (drop n (preorder 1 t)))
 term-node-small n t f = one-small n (preorder 1 t) (small-preorder 1 t (f .range) (omega (arith, f .deep)))
 
-pub node-small : (s : List ℕ) → Bytes s → {n c : ℕ} {l : List Shown} → ShownNode s n c l → (c ≤ 9) × SmallShown l
+pub node-small : (s : List ℕ) → Bytes s → {n c : ℕ} {l : List Shown} → ShownNode s n c l → (c ≤ 13) × SmallShown l
 node-small s B (ShownNode.unreadable e) = (refused-small s e, tt)
 node-small s B {n} (ShownNode.done {t} e) = (omega arith, term-node-small n t (read-fits s B e))

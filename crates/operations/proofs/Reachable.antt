@@ -33,11 +33,11 @@ use Rattle.operations.proofs.Kept.{fits-blank, fits-undo, fits-forward,
 use Rattle.operations.proofs.Reversible.{forward-done, forward-readable, forward-makes, as-pair, undo-done, undo-readable, blank-done, blank-makes}
 
 -- what verdict 0 comes from
-sound-done : {s : List ℕ} → Soundness s 0 0 → (t : Term) × Reads s t × Sound t
+pub sound-done : {s : List ℕ} → Soundness s 0 0 → (t : Term) × Reads s t × Sound t
 sound-done {s} (Soundness.unreadable e) = not-refused-zero s e
 sound-done (Soundness.done {t = t} e (sound i)) = (t, e, i)
 
-count-done : {s : List ℕ} {n : ℕ} → KeyCount s 0 n → (t : Term) × Reads s t × (distinct (keys t) ≡ n)
+pub count-done : {s : List ℕ} {n : ℕ} → KeyCount s 0 n → (t : Term) × Reads s t × (distinct (keys t) ≡ n)
 count-done {s} (KeyCount.unreadable e) = not-refused-zero s e
 count-done (KeyCount.done {t = t} e) = (t, e, refl)
 
@@ -49,7 +49,7 @@ read-back : {b : List ℕ} (t : Term) → Fits t → encode t ≡ b → Reads b 
 read-back t f e = rw (← e) (decode-encode t f)
 
 -- a run on terms is a run on their records
-run-on-bytes : {t u : Term} → Run t u → Fits u → ForwardRun (encode t) (encode u)
+pub run-on-bytes : {t u : Term} → Run t u → Fits u → ForwardRun (encode t) (encode u)
 run-on-bytes Run.stay f = ForwardRun.stay
 run-on-bytes (Run.then {u = u} {v = v} {m = m} r d) f =
     let b = undo-of-forward d in let g = fits-undo b f in let i = as-pair (step-placed d) in
@@ -102,13 +102,13 @@ forward-keeps-sound {s} h k a f = let i = sound-done a in let d = forward-done f
     Soundness.done (forward-readable d h k .1) (sound (sound-redo (undo-of-forward (d .step)) (rw (reads-one s (d .reads) (i .1)) (i .2))))
 
 -- undos on bytes are undos on terms
-record Back (ks : List Key) (t : Term) (b : List ℕ) : Type 0 where
-  end : Term
-  reads : Reads b end
-  bytes : encode end ≡ b
-  run : Undos ks t end
+pub record Back (ks : List Key) (t : Term) (b : List ℕ) : Type 0 where
+  pub end : Term
+  pub reads : Reads b end
+  pub bytes : encode end ≡ b
+  pub run : Undos ks t end
 
-undos-on-terms : {ks : List Key} {s b : List ℕ} (t : Term) → UndoRun ks s b → Bytes s → Reads s t → Back ks t b
+pub undos-on-terms : {ks : List Key} {s b : List ℕ} (t : Term) → UndoRun ks s b → Bytes s → Reads s t → Back ks t b
 undos-on-terms t (UndoRun.stay {s = s}) h e = record { end = t; reads = e; bytes = encode-read s h e; run = Undos.stay }
 undos-on-terms t (UndoRun.then {s = s} {m = m} {l = l} a r) h e =
     let d = undo-done a in let i = undo-readable d h in let w : Undo t m l (d .later) = rw (reads-one s e (d .reads)) (d .step) in
@@ -123,12 +123,12 @@ undo-run-ends {ks} {s} {b} h a r f =
     (count-makes (length ks) (i .1) (sym (z .0)), blank-makes (length ks) b (i .1) (sym (z .0)) (ap encode (sym (z .1)) ∙ j .bytes))
 
 -- the front of a row that took a list is the list
-filled-front : {x row row′ : List ℕ} {r n : ℕ} → Filled x row r n row′ → r ≡ 0 → take n row′ ≡ x
+pub filled-front : {x row row′ : List ℕ} {r n : ℕ} → Filled x row r n row′ → r ≡ 0 → take n row′ ≡ x
 filled-front (short h) e = absurd (omega arith)
 filled-front {x} {row} (filled h) e = take-append-seam x (drop (length x) row)
 
 -- what a waiting list comes from
-waiting-done : {s row row′ : List ℕ} {m : Key} {x : ℕ} → WaitingList s m row 0 x row′ → (t : Term) × Reads s t × (0 < m) × Has m t × Lists (WaitsFor t m) (take x row′)
+pub waiting-done : {s row row′ : List ℕ} {m : Key} {x : ℕ} → WaitingList s m row 0 x row′ → (t : Term) × Reads s t × (0 < m) × Has m t × Lists (WaitsFor t m) (take x row′)
 waiting-done {s} (WaitingList.unreadable e) = not-refused-zero s e
 waiting-done (WaitingList.done {t = t} e h i l f) = (t, e, h, i, rw (filled-front f refl) l)
 

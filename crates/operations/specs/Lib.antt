@@ -3,3 +3,4 @@ pub mod Order
 pub mod Change
 pub mod Ask
 pub mod Runs
+pub mod TakeBack

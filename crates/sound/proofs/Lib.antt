@@ -7,6 +7,7 @@ pub mod Kept
 pub mod Derive
 pub mod Top
 pub mod Reach
+pub mod Taken
 pub mod Literal
 pub mod Decide
 pub mod Examples

@@ -47,7 +47,7 @@ above-high x y (res a t) i = above-high x y t i
 pub chain-ends : (t : Term) {m n : ℕ} → Chain (Before t) m n → ((0 < m) × Has m t) × ((0 < n) × Has n t)
 chain-ends t {m} {n} c = let a = first c in let b = final c in ((a .1 .0, above-high m (a .0) t (a .1 .3)), (b .1 .1, above-low (b .0) n t (b .1 .3)))
 
-above-undo : {t u : Term} {m l : ℕ} (x y : ℕ) → Undo t m l u → 0 < x → 0 < y → Above x y u → Above x y t
+pub above-undo : {t u : Term} {m l : ℕ} (x y : ℕ) → Undo t m l u → 0 < x → 0 < y → Above x y u → Above x y t
 above-undo x y (top h s) p q (inl i) = never p (i .0)
 above-undo x y (top h s) p q (inr i) = inr i
 above-undo x y (prefix h f d) p q (inl i) = inl (i .0, has-undo y d q (i .1))
@@ -64,7 +64,7 @@ above-undo x y (synch c d e) p q (inl i) = inl (above-undo x y d p q i)
 above-undo x y (synch c d e) p q (inr i) = inr (above-undo x y e p q i)
 above-undo x y (restrict f d) p q i = above-undo x y d p q i
 
-above-redo : {t u : Term} {m l : ℕ} (x y : ℕ) → Undo t m l u → 0 < y → y ≢ m → Above x y t → Above x y u
+pub above-redo : {t u : Term} {m l : ℕ} (x y : ℕ) → Undo t m l u → 0 < y → y ≢ m → Above x y t → Above x y u
 above-redo x y (top {t = t} h s) q n (inl i) = absurd (std-has t s q (i .1))
 above-redo x y (top h s) q n (inr i) = inr i
 above-redo x y (prefix h f d) q n (inl i) = inl (i .0, has-redo y d q n (i .1))
@@ -99,7 +99,7 @@ last y (synch c d e) q (inl i) = last y d q i
 last y (synch c d e) q (inr i) = last y e q i
 last y (restrict f d) q i = last y d q i
 
-chain-undo : {t u : Term} {m l x z : ℕ} → Undo t m l u → Chain (Before u) x z → Chain (Before t) x z
+pub chain-undo : {t u : Term} {m l x z : ℕ} → Undo t m l u → Chain (Before u) x z → Chain (Before t) x z
 chain-undo d = chain-map (λ x y b. (b .0, b .1, b .2, above-undo x y d (b .0) (b .1) (b .3)))
 
 -- the upper key of a link is not the key of the undo
