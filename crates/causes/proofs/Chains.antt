@@ -96,7 +96,7 @@ irreflexive : (t : Term) → Twice t → Split t → (m : ℕ) → 0 < m → ¬ 
 irreflexive t w s m h i = self-apart m t (w m h) i (s m h (let c = self-count m t i in let z = w m h in omega arith))
 
 -- in such a term no key is right above itself
-right-apart : (t : Term) → Twice t → Split t → (m k : ℕ) → RightAbove 0 t m k → m ≢ k
+pub right-apart : (t : Term) → Twice t → Split t → (m k : ℕ) → RightAbove 0 t m k → m ≢ k
 right-apart t w s m k i e = let b = right-above-keys t m k i in irreflexive t w s m (b .0) (rw (← e) at (b .1))
 
 -- condition 7

@@ -22,7 +22,7 @@ use Rattle.shared.specs.declared.Number.the-variants.{Is}
 use Rattle.keys.specs.Gather.{RecordOf, Readable}
 use Rattle.keys.proofs.Reading.{was-read}
 use Rattle.filing.specs.Cabinet.{Cabinet, Empty, Link, Files}
-use Rattle.filing.specs.Record.{below, Pushed, MetBy, AllFiled, Stands}
+use Rattle.filing.specs.Record.{below, Pushed, MetBy, AllFiled, FiledUpTo, Stands}
 use Rattle.filing.proofs.Drawers.{Holding, holding-none, link-none, holding-filed, link-filed, filed-few}
 use Rattle.filing.proofs.Terms.{LinksOf, HeadLink, links-after, links-none}
 use Rattle.filing.proofs.Standing.{Tells, tells-more, stands}
@@ -189,3 +189,6 @@ module _ (s : List ℕ) (m : Key) (x : Cabinet) (due ups : List ℕ) (many left 
 
   pub all-filed : AllFiled s x
   all-filed = (P .holding .filed, (filled .of, filled .whole, filling-links s m x ups many at met filled z))
+
+  pub up-to : FiledUpTo x n
+  up-to = (omega (arith, P .room), P .holding .rest)

@@ -3,10 +3,11 @@ use mathlib.Core.Path.{_≡_}
 use mathlib.Core.Logic.{_≢_, _↔_}
 use mathlib.Core.List.{List, _∷_}
 use mathlib.Core.Bool.{Bool, true, false}
-use Prim.Native.Nat.{ℕ, zero, suc, _+_, _-_}
-use lib.ListN.{length}
+use Prim.Native.Nat.{ℕ, zero, suc, _+_, _-_, _≤_, _<_}
+use lib.ListN.{length, getD}
 use Rattle.ccsk.specs.Term.{Term, Key, Has, Fsh}
 use Rattle.causes.specs.Nearest.{RightAbove}
+use Rattle.format.specs.Limits.{node-limit}
 use Rattle.format.specs.Read.{Refuses}
 use Rattle.reader.specs.Due.{stacked, push}
 use Rattle.keys.specs.Gather.{RecordOf}
@@ -39,8 +40,12 @@ abbrev pub Stands : List ℕ → Key → Bool → Type 0
 Stands s m true = (t : Term) × RecordOf s t × Has m t
 Stands s m false = (t : Term) × RecordOf s t × Fsh m t
 
--- what `file_all` answers for the key m: the bytes are refused, m does not stand in the record, or it does and all links are filed
+-- there are n links, with the numbers from 1 on
+abbrev pub FiledUpTo : Cabinet → ℕ → Type 0
+FiledUpTo x n = (n ≤ node-limit) × ((i : ℕ) → n < i → getD (x .upper) i 0 ≡ 0)
+
+-- what `file_all` answers for the key m: the bytes are refused, m does not stand in the record, or it does and all n links are filed
 abbrev pub FilesAll : List ℕ → Key → Cabinet → Found → Type 0
 FilesAll s m x (Refused c) = Refuses s c
 FilesAll s m x Absent = Stands s m false
-FilesAll s m x Standing = Stands s m true × AllFiled s x
+FilesAll s m x (Standing n) = Stands s m true × AllFiled s x × FiledUpTo x n

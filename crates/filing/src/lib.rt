@@ -22,11 +22,12 @@ pub const LINKS: usize = NODES + 1;
 // Keys that differ by NODES have drawers that lie this far apart: keys numbered in steps of NODES do not all meet in one drawer.
 const SHIFT: usize = 257;
 
-// What filing a record comes to, for a key that was asked for: the bytes are refused, the key does not stand there, or it does.
+// What filing a record comes to, for a key that was asked for: the bytes are refused, the key does not stand there, or it does, and so many
+// links are filed.
 pub enum Found {
     Refused(u8),
     Absent,
-    Standing,
+    Standing(usize),
 }
 
 // The drawer of a key.
@@ -146,7 +147,7 @@ pub fn file_all(
         return Found::Refused(NO_RECORD);
     }
     if met {
-        return Found::Standing;
+        return Found::Standing(links);
     }
     Found::Absent
 }

@@ -8,6 +8,8 @@ ghost use Rattle.format.specs.Flat.{keyAt};
 ghost use Rattle.operations.specs.Ask.{KeyCount, FreeKey};
 ghost use Rattle.operations.specs.Change.{BlankForm};
 ghost use Rattle.shared.specs.Number.{refusal, value};
+ghost use Rattle.keyset.specs.Set.{member};
+ghost use Rattle.keys.specs.Erase.{erasedAt, Erased};
 ghost use Rattle.keys.specs.Gather.{Readable, Holds, Marked, Scanned, Gathered, clearedAt, Cleared};
 use keyset::BYTES;
 use shared::NOT_DONE;
@@ -113,6 +115,31 @@ fn clear_at(bytes: &mut [u8], at: usize)
     if bytes[at] == PREFIX {
         bytes[at + 2] = 0;
         bytes[at + 3] = 0;
+    }
+}
+
+// Key 0 at the node at `at`, if its key is in the set. The caller has seen that the node's bytes are there.
+fn erase_at(bytes: &mut [u8], at: usize, marks: &[u8; BYTES])
+    requires { ⌜ (at < length (now bytes)) × (getD (now bytes) at 0 ≡ 1 → at + 3 < length (now bytes)) × (length (now marks) ≡ 8192) ⌝ }
+    ensures { λ _. ⌜ now (bytes .exit) ≡ erasedAt (member (now (marks .entry)) (keyAt (now (bytes .entry)) at)) (now (bytes .entry)) at ⌝ }
+{
+    if keyset::has(marks, key_at(bytes, at)) {
+        clear_at(bytes, at);
+    }
+}
+
+// Makes each key of a readable record that is in the set 0, in one pass. A helper between crates: the set's array is whole.
+pub fn erase(bytes: &mut [u8], marks: &[u8; BYTES])
+    requires { ⌜ Readable (now bytes) ⌝ }
+    requires { ⌜ length (now marks) ≡ 8192 ⌝ }
+    ensures { λ _. ⌜ Erased (member (now (marks .entry))) (now (bytes .entry)) (now (bytes .exit)) ⌝ }
+{
+    let body = reader::BODY;
+    let mut at: usize = 0;
+    while at < bytes.len() {
+        let kind = shared::wide_byte(bytes[at]);
+        erase_at(bytes, at, marks);
+        at += 1 + body[kind];
     }
 }
 

@@ -12,7 +12,7 @@ use Rattle.keyset.specs.Set.{bit, member, membersBelow, Listed, Fronted}
 use Rattle.keyset.proofs.Members.{members-none, members-absent, members-there, members-few, member-at, members-skip, room-for, not-the-end, none-ahead}
 
 -- one number more at the front of the row
-row-more : (l old row : List ℕ) (n v : ℕ) → n ≡ length l → n < length old → row ≡ l ++ drop n old → set row n v ≡ (l ++ (v ∷ [])) ++ drop (n + 1) old
+pub row-more : (l old row : List ℕ) (n v : ℕ) → n ≡ length l → n < length old → row ≡ l ++ drop n old → set row n v ≡ (l ++ (v ∷ [])) ++ drop (n + 1) old
 row-more l old row n v e h q = rw (q, drop-cons old n 0 h, set-at l (getD old n 0) (drop (suc n) old) v n (sym e), append-assoc, add-one n)
 
 module _ (s old : List ℕ) (k n : ℕ) (row : List ℕ) (L : Listed s old k n row) where

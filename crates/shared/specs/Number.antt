@@ -1,5 +1,5 @@
 -- The refusal number and the value of an answer that is a number (01, Operations and their refusals).
-use Prim.Native.Nat.{ℕ}
+use Prim.Native.Nat.{ℕ, _<_}
 use Rattle.shared.specs.declared.Number.{Number}
 use Rattle.shared.specs.declared.Number.the-variants.{Refused, Is}
 
@@ -12,3 +12,8 @@ refusal (Is n) = 0
 abbrev pub value : Number → ℕ
 value (Refused c) = 0
 value (Is n) = n
+
+-- a refusal has a number above 0
+abbrev pub Caused : Number → Type 0
+Caused (Refused c) = 0 < c
+Caused (Is n) = Unit {0}

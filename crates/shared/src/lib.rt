@@ -62,6 +62,9 @@ pub const NO_UNDO: u8 = 8;
 // The lent row is shorter than the list.
 pub const SHORT_ROW: u8 = 9;
 
+// The record is not sound (02, [6]).
+pub const NOT_SOUND: u8 = 13;
+
 // A byte as an index.
 pub fn wide_byte(x: u8) -> usize
     ensures { λ r. ⌜ r ≡ x ⌝ }

@@ -11,6 +11,7 @@ use Rattle.ccsk.specs.Term.{Term}
 use Rattle.format.specs.Limits.{node-limit}
 use Rattle.format.specs.Read.{Reads}
 use Rattle.format.specs.Encode.{Bytes}
+use Rattle.format.proofs.Refusals.{decode-refusals}
 use Rattle.format.proofs.Unique.{encode-decode}
 use Rattle.causes.specs.Tests.{Tested, first-fails, second-fails}
 use Rattle.causes.proofs.Verdict.{tested-verdict}
@@ -99,6 +100,9 @@ module _ (s : List ℕ) (b : Bytes s) where
   module _ (x : Whole) (L : Looked s x) where
     pub refused-verdict : (c : ℕ) → x ≡ whole.Refused c → Soundness s c 0
     refused-verdict c e = unreadable (subst (Looked s) e L)
+
+    pub refused-caused : (c : ℕ) → x ≡ whole.Refused c → 0 < c
+    refused-caused c e = ⊎-elim (λ z. omega arith) (λ z. omega arith) (decode-refusals s c (subst (Looked s) e L))
 
     module _ (m : Marks) (e : x ≡ whole.Marks m) where
       seen : (t : Term) × Reads s t × MarksOf t m

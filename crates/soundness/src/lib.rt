@@ -6,7 +6,7 @@ use shared::Number;
 use verdict::ordering;
 use verdict::pairing;
 ghost use lib.ListN.{length};
-ghost use Rattle.shared.specs.Number.{refusal, value};
+ghost use Rattle.shared.specs.Number.{refusal, value, Caused};
 ghost use Rattle.operations.specs.Ask.{Soundness};
 ghost use Rattle.soundness.specs.Judge.{Fair, Judged, Spread, Settled, Slotted, Decided, Room};
 
@@ -109,6 +109,7 @@ fn judge(s: &[u8]) -> u8
 // The verdict of a record: the lowest of the seven conditions that fails, 0 if none does.
 pub fn verdict(record: &[u8]) -> Number
     ensures { λ r. ⌜ Soundness (now («record» .entry)) (refusal r) (value r) ⌝ }
+    ensures { λ r. ⌜ Caused r ⌝ }
 {
     match fold_all(record) {
         Whole::Refused(c) => Number::Refused(c),

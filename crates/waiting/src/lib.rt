@@ -46,7 +46,7 @@ fn list_waiting(bytes: &[u8], key: u16, row: &mut [u16]) -> Number
     match file_all(bytes, key, &mut upper, &mut lower, &mut older, &mut latest) {
         Found::Refused(c) => Number::Refused(c),
         Found::Absent => Number::Refused(KEY_ABSENT),
-        Found::Standing => list_reached(key, &upper, &lower, &older, &latest, row),
+        Found::Standing(_) => list_reached(key, &upper, &lower, &older, &latest, row),
     }
 }
 

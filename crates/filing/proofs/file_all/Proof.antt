@@ -6,7 +6,7 @@ use Rattle.reader.proofs.Whole.{slice-bytes}
 use Rattle.reader.proofs.Due.{more-bytes, pass-refused, pass-good}
 use Rattle.filing.specs.Cabinet.{cabinet}
 use Rattle.filing.specs.Record.{Stands}
-use Rattle.filing.proofs.Filling.{Passing, start, onward, key-inside, stack-room, children-few, link-room, told, all-filed}
+use Rattle.filing.proofs.Filling.{Passing, start, onward, key-inside, stack-room, children-few, link-room, told, all-filed, up-to}
 use Rattle.filing.proofs.file_all.Statement.{statement}
 use Rattle.filing.proofs.file_all.Tie as tie
 
@@ -108,7 +108,7 @@ same-length-12 : tie.Need-same-length-12 Inv-loop μ-loop
 same-length-12 c = omega (arith, c .before .before .before .loop .inv .holding .filed .sized .latest, c .before .before .before .before .before .before .before .before .before .pre .1 .sized .latest)
 
 returns-3 : tie.Need-returns-3 Inv-loop μ-loop
-returns-3 c = (subst (Stands (c .before .before .before .before .before .before .before .before .before .args .bytes .now) (c .before .before .before .before .before .before .before .before .before .args .key)) (c .if2 .taken) (told (c .before .before .before .before .before .before .before .before .before .args .bytes .now) (c .before .before .before .before .before .before .before .before .before .args .key) (cabinet (c .before .before .before .loop .upper) (c .before .before .before .loop .lower) (c .before .before .before .loop .older) (c .before .before .before .loop .latest)) (c .before .before .before .loop .due) (c .before .before .before .loop .ups) (c .before .before .before .loop .many) (c .before .before .before .loop .left) (c .before .before .before .loop .at) (c .before .before .before .loop .links) (c .before .before .before .loop .met) (c .before .before .before .loop .inv) (omega (arith, c .before .before .loop-test .left)) (c .before .if1 .left) (slice-bytes (c .before .before .before .before .before .before .before .before .before .args .bytes .now) (λ i. omega (arith, c .before .before .before .before .before .before .before .before .shared-slice-known .given i))) (c .before .before .before .before .before .before .before .before .before .pre .0)), all-filed (c .before .before .before .before .before .before .before .before .before .args .bytes .now) (c .before .before .before .before .before .before .before .before .before .args .key) (cabinet (c .before .before .before .loop .upper) (c .before .before .before .loop .lower) (c .before .before .before .loop .older) (c .before .before .before .loop .latest)) (c .before .before .before .loop .due) (c .before .before .before .loop .ups) (c .before .before .before .loop .many) (c .before .before .before .loop .left) (c .before .before .before .loop .at) (c .before .before .before .loop .links) (c .before .before .before .loop .met) (c .before .before .before .loop .inv) (omega (arith, c .before .before .loop-test .left)) (c .before .if1 .left) (slice-bytes (c .before .before .before .before .before .before .before .before .before .args .bytes .now) (λ i. omega (arith, c .before .before .before .before .before .before .before .before .shared-slice-known .given i))))
+returns-3 c = (subst (Stands (c .before .before .before .before .before .before .before .before .before .args .bytes .now) (c .before .before .before .before .before .before .before .before .before .args .key)) (c .if2 .taken) (told (c .before .before .before .before .before .before .before .before .before .args .bytes .now) (c .before .before .before .before .before .before .before .before .before .args .key) (cabinet (c .before .before .before .loop .upper) (c .before .before .before .loop .lower) (c .before .before .before .loop .older) (c .before .before .before .loop .latest)) (c .before .before .before .loop .due) (c .before .before .before .loop .ups) (c .before .before .before .loop .many) (c .before .before .before .loop .left) (c .before .before .before .loop .at) (c .before .before .before .loop .links) (c .before .before .before .loop .met) (c .before .before .before .loop .inv) (omega (arith, c .before .before .loop-test .left)) (c .before .if1 .left) (slice-bytes (c .before .before .before .before .before .before .before .before .before .args .bytes .now) (λ i. omega (arith, c .before .before .before .before .before .before .before .before .shared-slice-known .given i))) (c .before .before .before .before .before .before .before .before .before .pre .0)), all-filed (c .before .before .before .before .before .before .before .before .before .args .bytes .now) (c .before .before .before .before .before .before .before .before .before .args .key) (cabinet (c .before .before .before .loop .upper) (c .before .before .before .loop .lower) (c .before .before .before .loop .older) (c .before .before .before .loop .latest)) (c .before .before .before .loop .due) (c .before .before .before .loop .ups) (c .before .before .before .loop .many) (c .before .before .before .loop .left) (c .before .before .before .loop .at) (c .before .before .before .loop .links) (c .before .before .before .loop .met) (c .before .before .before .loop .inv) (omega (arith, c .before .before .loop-test .left)) (c .before .if1 .left) (slice-bytes (c .before .before .before .before .before .before .before .before .before .args .bytes .now) (λ i. omega (arith, c .before .before .before .before .before .before .before .before .shared-slice-known .given i))), up-to (c .before .before .before .before .before .before .before .before .before .args .bytes .now) (c .before .before .before .before .before .before .before .before .before .args .key) (cabinet (c .before .before .before .loop .upper) (c .before .before .before .loop .lower) (c .before .before .before .loop .older) (c .before .before .before .loop .latest)) (c .before .before .before .loop .due) (c .before .before .before .loop .ups) (c .before .before .before .loop .many) (c .before .before .before .loop .left) (c .before .before .before .loop .at) (c .before .before .before .loop .links) (c .before .before .before .loop .met) (c .before .before .before .loop .inv) (omega (arith, c .before .before .loop-test .left)) (c .before .if1 .left) (slice-bytes (c .before .before .before .before .before .before .before .before .before .args .bytes .now) (λ i. omega (arith, c .before .before .before .before .before .before .before .before .shared-slice-known .given i))))
 
 same-length-13 : tie.Need-same-length-13 Inv-loop μ-loop
 same-length-13 c = omega (arith, c .before .before .before .loop .inv .holding .filed .sized .upper, c .before .before .before .before .before .before .before .before .before .pre .1 .sized .upper)

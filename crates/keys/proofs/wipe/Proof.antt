@@ -2,7 +2,8 @@
 -- and the front of the bytes is the blank form's, by the laws of Clearing.
 use borrow.Author.Needs.{needs}
 use native.Mathlib.Omega.{arith}
-use mathlib.Core.Path.{_∙_}
+use mathlib.Core.Path.{refl, _∙_}
+use mathlib.Core.Bool.{true}
 use Prim.Native.Nat.{_-_}
 use lib.ListN.{length}
 use Rattle.format.proofs.Flat.{key-within, kind-known, ends-within}
@@ -12,13 +13,13 @@ use Rattle.keys.proofs.wipe.Statement.{statement}
 use Rattle.keys.proofs.wipe.Tie as tie
 
 abbrev Inv-loop : tie.InvT-loop
-Inv-loop bytes₀ marks₀ body at₀ n₀ bytes marks at n = Passed bytes₀ marks at n × clearing.Clearing bytes₀ bytes at
+Inv-loop bytes₀ marks₀ body at₀ n₀ bytes marks at n = Passed bytes₀ marks at n × clearing.Clearing (λ k. true) bytes₀ bytes at
 
 abbrev μ-loop : tie.MeasureT-loop
 μ-loop bytes₀ marks₀ body at₀ n₀ bytes marks at n = length bytes - at
 
 loop-holds : tie.Need-loop-holds Inv-loop μ-loop
-loop-holds c = (start (c .before .args .bytes .now) (c .before .args .marks .now) (c .before .pre .0) (c .before .pre .1), clearing.start (c .before .args .bytes .now) (c .before .pre .0))
+loop-holds c = (start (c .before .args .bytes .now) (c .before .args .marks .now) (c .before .pre .0) (c .before .pre .1), clearing.start (λ k. true) (c .before .args .bytes .now) (c .before .pre .0))
 
 slice-read-wide-byte : tie.Need-slice-read-wide-byte Inv-loop μ-loop
 slice-read-wide-byte c = search needs
@@ -54,13 +55,13 @@ loop-less : tie.Need-loop-less Inv-loop μ-loop
 loop-less c = omega (arith, ends-within (c .before .before .before .before .before .before .before .before .before .before .before .loop .bytes) (c .before .before .before .before .before .before .before .before .before .before .before .loop .at) _ (c .before .before .before .before .before .before .before .before .before .before .before .loop .inv .1 .due) (c .before .before .before .before .before .before .before .before .before .before .loop-test .taken) (c .before .before .before .before .before .before .before .before .wide-byte .result) (c .before .before .before .before .before .before .before .before .wide-byte .ensures), c .before .before .clear-at .kept .0)
 
 loop-again : tie.Need-loop-again Inv-loop μ-loop
-loop-again c = (onward (c .before .before .before .before .before .before .before .before .before .before .before .before .before .args .bytes .now) (c .before .before .before .before .before .before .before .before .before .before .before .loop .marks) (c .before .before .before .before .before .before .before .before .before .before .before .loop .at) (c .before .before .before .before .before .before .before .before .before .before .before .loop .n) (c .before .before .before .before .before .before .before .before .before .before .before .loop .inv .0) (omega (arith, c .before .before .before .before .before .before .before .before .before .before .loop-test .taken, c .before .before .before .before .before .before .before .before .before .before .before .loop .inv .1 .same)) (c .before .before .before .before .before .key-at .result) (c .before .before .before .before .before .key-at .ensures ∙ clearing.same-key (c .before .before .before .before .before .before .before .before .before .before .before .before .before .args .bytes .now) (c .before .before .before .before .before .before .before .before .before .before .before .loop .bytes) (c .before .before .before .before .before .before .before .before .before .before .before .loop .at) (c .before .before .before .before .before .before .before .before .before .before .before .loop .inv .1)) _ (c .before .before .before .before .mark .result) (c .before .before .before .before .mark .ensures) (c .before .before .before .before .before .before .before .before .wide-byte .result) (c .before .before .before .before .before .before .before .before .wide-byte .ensures ∙ clearing.same-kind (c .before .before .before .before .before .before .before .before .before .before .before .before .before .args .bytes .now) (c .before .before .before .before .before .before .before .before .before .before .before .loop .bytes) (c .before .before .before .before .before .before .before .before .before .before .before .loop .at) (c .before .before .before .before .before .before .before .before .before .before .before .loop .inv .1)), clearing.onward (c .before .before .before .before .before .before .before .before .before .before .before .before .before .args .bytes .now) (c .before .before .before .before .before .before .before .before .before .before .before .loop .bytes) (c .before .before .before .before .before .before .before .before .before .before .before .loop .at) (c .before .before .before .before .before .before .before .before .before .before .before .loop .inv .1) (c .before .before .before .before .before .before .before .before .before .before .loop-test .taken) (c .before .before .before .before .before .before .before .before .wide-byte .result) (c .before .before .before .before .before .before .before .before .wide-byte .ensures) _ (c .before .before .clear-at .ensures))
+loop-again c = (onward (c .before .before .before .before .before .before .before .before .before .before .before .before .before .args .bytes .now) (c .before .before .before .before .before .before .before .before .before .before .before .loop .marks) (c .before .before .before .before .before .before .before .before .before .before .before .loop .at) (c .before .before .before .before .before .before .before .before .before .before .before .loop .n) (c .before .before .before .before .before .before .before .before .before .before .before .loop .inv .0) (omega (arith, c .before .before .before .before .before .before .before .before .before .before .loop-test .taken, c .before .before .before .before .before .before .before .before .before .before .before .loop .inv .1 .same)) (c .before .before .before .before .before .key-at .result) (c .before .before .before .before .before .key-at .ensures ∙ clearing.same-key (λ k. true) (c .before .before .before .before .before .before .before .before .before .before .before .before .before .args .bytes .now) (c .before .before .before .before .before .before .before .before .before .before .before .loop .bytes) (c .before .before .before .before .before .before .before .before .before .before .before .loop .at) (c .before .before .before .before .before .before .before .before .before .before .before .loop .inv .1)) _ (c .before .before .before .before .mark .result) (c .before .before .before .before .mark .ensures) (c .before .before .before .before .before .before .before .before .wide-byte .result) (c .before .before .before .before .before .before .before .before .wide-byte .ensures ∙ clearing.same-kind (λ k. true) (c .before .before .before .before .before .before .before .before .before .before .before .before .before .args .bytes .now) (c .before .before .before .before .before .before .before .before .before .before .before .loop .bytes) (c .before .before .before .before .before .before .before .before .before .before .before .loop .at) (c .before .before .before .before .before .before .before .before .before .before .before .loop .inv .1)), clearing.onward (λ k. true) (c .before .before .before .before .before .before .before .before .before .before .before .before .before .args .bytes .now) (c .before .before .before .before .before .before .before .before .before .before .before .loop .bytes) (c .before .before .before .before .before .before .before .before .before .before .before .loop .at) (c .before .before .before .before .before .before .before .before .before .before .before .loop .inv .1) (c .before .before .before .before .before .before .before .before .before .before .loop-test .taken) (c .before .before .before .before .before .before .before .before .wide-byte .result) (c .before .before .before .before .before .before .before .before .wide-byte .ensures) true refl _ (c .before .before .clear-at .ensures))
 
 same-length : tie.Need-same-length Inv-loop μ-loop
 same-length c = c .before .loop .inv .1 .same
 
 returns : tie.Need-returns Inv-loop μ-loop
-returns c = (scanned (c .before .before .before .args .bytes .now) (c .before .loop .marks) (c .before .loop .at) (c .before .loop .n) (c .before .loop .inv .0) (omega (arith, c .loop-test .left, c .before .loop .inv .1 .same)), clearing.cleared (c .before .before .before .args .bytes .now) (c .before .loop .bytes) (c .before .loop .at) (c .before .loop .inv .1) (c .loop-test .left))
+returns c = (scanned (c .before .before .before .args .bytes .now) (c .before .loop .marks) (c .before .loop .at) (c .before .loop .n) (c .before .loop .inv .0) (omega (arith, c .loop-test .left, c .before .loop .inv .1 .same)), clearing.cleared (c .before .before .before .args .bytes .now) (c .before .loop .bytes) (clearing.erased (λ k. true) (c .before .before .before .args .bytes .now) (c .before .loop .bytes) (c .before .loop .at) (c .before .loop .inv .1) (c .loop-test .left)))
 
 pub wipe-spec : {M : Type 1} → statement M
 wipe-spec =

@@ -42,7 +42,7 @@ slice-aggregate-list-reached-4 : tie.Need-slice-aggregate-list-reached-4
 slice-aggregate-list-reached-4 c = search needs
 
 list-reached-requires : tie.Need-list-reached-requires
-list-reached-requires c κs = ((key-stands (c .before .before .before .before .before .before .before .before .before .before .before .before .before .before .before .before .before .before .args .bytes .now) (c .before .before .before .before .before .before .before .before .before .before .before .before .before .before .before .before .before .before .args .key) _ (c .before .before .before .before .before .before .before .before .before .before .before .file-all .result) (c .before .before .before .before .before .before .before .before .before .before .before .file-all .ensures) (c .before .before .before .before .before .enum-told2 .given .1)) .1 .0, to-keys (c .before .before .before .before .before .before .before .before .before .before .before .before .before .before .before .before .before .before .args .bytes .now) _ ((key-stands (c .before .before .before .before .before .before .before .before .before .before .before .before .before .before .before .before .before .before .args .bytes .now) (c .before .before .before .before .before .before .before .before .before .before .before .before .before .before .before .before .before .before .args .key) _ (c .before .before .before .before .before .before .before .before .before .before .before .file-all .result) (c .before .before .before .before .before .before .before .before .before .before .before .file-all .ensures) (c .before .before .before .before .before .enum-told2 .given .1)) .1))
+list-reached-requires c κs = ((key-stands (c .before .before .before .before .before .before .before .before .before .before .before .before .before .before .before .before .before .before .args .bytes .now) (c .before .before .before .before .before .before .before .before .before .before .before .before .before .before .before .before .before .before .args .key) _ (c .before .before .before .before .before .before .before .before .before .before .before .file-all .result) (c .before .before .before .before .before .before .before .before .before .before .before .file-all .ensures) _ (c .before .before .before .before .before .enum-told2 .given .1)) .1 .0, to-keys (c .before .before .before .before .before .before .before .before .before .before .before .before .before .before .before .before .before .before .args .bytes .now) _ ((key-stands (c .before .before .before .before .before .before .before .before .before .before .before .before .before .before .before .before .before .before .args .bytes .now) (c .before .before .before .before .before .before .before .before .before .before .before .before .before .before .before .before .before .before .args .key) _ (c .before .before .before .before .before .before .before .before .before .before .before .file-all .result) (c .before .before .before .before .before .before .before .before .before .before .before .file-all .ensures) _ (c .before .before .before .before .before .enum-told2 .given .1)) .1))
 
 returns : tie.Need-returns
 returns c = bytes-refused (c .before .before .before .before .before .before .before .before .before .before .before .before .before .before .args .bytes .now) (c .before .before .before .before .before .before .before .before .before .before .before .before .before .before .args .key) _ (c .before .before .before .before .before .before .before .file-all .result) (c .before .before .before .before .before .before .before .file-all .ensures) _ (c .before .c .given .1) (c .before .before .before .before .before .before .before .before .before .before .before .before .before .before .args .row .now)
@@ -54,7 +54,7 @@ same-length : tie.Need-same-length
 same-length c = search needs
 
 returns-3 : tie.Need-returns-3
-returns-3 c = answered (c .before .before .before .before .before .before .before .before .before .before .before .before .before .before .before .before .before .before .before .before .before .args .bytes .now) _ ((key-stands (c .before .before .before .before .before .before .before .before .before .before .before .before .before .before .before .before .before .before .before .before .before .args .bytes .now) (c .before .before .before .before .before .before .before .before .before .before .before .before .before .before .before .before .before .before .before .before .before .args .key) _ (c .before .before .before .before .before .before .before .before .before .before .before .before .before .before .file-all .result) (c .before .before .before .before .before .before .before .before .before .before .before .before .before .before .file-all .ensures) (c .before .before .before .before .before .before .before .before .enum-told2 .given .1)) .1) (c .before .before .before .before .before .before .before .before .before .before .before .before .before .before .before .before .before .before .before .before .before .args .key) _ _ _ _ (c .before .before .before .before .before .before .before .before .before .before .before .before .before .before .before .before .before .before .before .before .before .pre) ((key-stands (c .before .before .before .before .before .before .before .before .before .before .before .before .before .before .before .before .before .before .before .before .before .args .bytes .now) (c .before .before .before .before .before .before .before .before .before .before .before .before .before .before .before .before .before .before .before .before .before .args .key) _ (c .before .before .before .before .before .before .before .before .before .before .before .before .before .before .file-all .result) (c .before .before .before .before .before .before .before .before .before .before .before .before .before .before .file-all .ensures) (c .before .before .before .before .before .before .before .before .enum-told2 .given .1)) .0) (c .before .before .list-reached .ensures)
+returns-3 c = answered (c .before .before .before .before .before .before .before .before .before .before .before .before .before .before .before .before .before .before .before .before .before .args .bytes .now) _ ((key-stands (c .before .before .before .before .before .before .before .before .before .before .before .before .before .before .before .before .before .before .before .before .before .args .bytes .now) (c .before .before .before .before .before .before .before .before .before .before .before .before .before .before .before .before .before .before .before .before .before .args .key) _ (c .before .before .before .before .before .before .before .before .before .before .before .before .before .before .file-all .result) (c .before .before .before .before .before .before .before .before .before .before .before .before .before .before .file-all .ensures) _ (c .before .before .before .before .before .before .before .before .enum-told2 .given .1)) .1) (c .before .before .before .before .before .before .before .before .before .before .before .before .before .before .before .before .before .before .before .before .before .args .key) _ _ _ _ (c .before .before .before .before .before .before .before .before .before .before .before .before .before .before .before .before .before .before .before .before .before .pre) ((key-stands (c .before .before .before .before .before .before .before .before .before .before .before .before .before .before .before .before .before .before .before .before .before .args .bytes .now) (c .before .before .before .before .before .before .before .before .before .before .before .before .before .before .before .before .before .before .before .before .before .args .key) _ (c .before .before .before .before .before .before .before .before .before .before .before .before .before .before .file-all .result) (c .before .before .before .before .before .before .before .before .before .before .before .before .before .before .file-all .ensures) _ (c .before .before .before .before .before .before .before .before .enum-told2 .given .1)) .0) (c .before .before .list-reached .ensures)
 
 pub list-waiting-spec : {M : Type 1} → statement M
 list-waiting-spec =
