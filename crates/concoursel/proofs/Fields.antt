@@ -10,9 +10,10 @@ use Rattle.format.specs.Encode.{Bytes}
 use Rattle.format.specs.Preorder.{Shown, shown}
 use Rattle.operations.specs.Change.{ForwardStep, UndoStep, BlankForm}
 use Rattle.operations.specs.Ask.{ReadRecord, ShownNode, KeyCount, FreeKey, FirstStep, UndoListing, WaitingList, Soundness}
-use Rattle.operations.proofs.Bounds.{SmallNumber, SmallStep, forward-small, undo-small, read-small, count-small, free-small, sound-small, blank-small, listing-small, waiting-small, first-small}
+use Rattle.operations.specs.TakeBack.{TakeBack}
+use Rattle.operations.proofs.Bounds.{SmallNumber, SmallStep, forward-small, undo-small, read-small, count-small, free-small, sound-small, blank-small, listing-small, waiting-small, take-small, first-small}
 use Rattle.operations.proofs.NodeBounds.{key-in, SmallShown, node-small}
-use Rattle.concoursel.specs.Packed.{step-answer, answer, node-answer, PackedStep, PackedStep.packed, PackedNumber, PackedNumber.packed, PackedLent, PackedLent.packed, PackedFirst, PackedFirst.packed, PackedNode, PackedNode.packed}
+use Rattle.concoursel.specs.Packed.{step-answer, answer, node-answer, PackedStep, PackedStep.packed, PackedNumber, PackedNumber.packed, PackedLent, PackedLent.packed, PackedBoth, PackedBoth.packed, PackedFirst, PackedFirst.packed, PackedNode, PackedNode.packed}
 use Rattle.concoursel.specs.Fields.{step-refusal-of, step-label-of, refusal-of, found-of, label-of, p-of, q-of, number-of, kind-of, node-of}
 
 -- x is what a shift and a cast, as divisor d and modulus w, take out of r: what lies below x is less than d
@@ -62,7 +63,7 @@ lent-fields : {P : ℕ → ℕ → List ℕ → Type 0} {r : ℕ} {b : List ℕ}
 lent-fields h (packed {c} {n} {b} f) = let t = number-taken c n (h c n b f) in rw (t .0, t .1) f
 
 -- a node of the walk
-node-taken : (c r : ℕ) (l : List Shown) → c ≤ 9 → SmallShown l → r ≡ node-answer c l → (refusal-of r ≡ c) × (node-of r ≡ l)
+node-taken : (c r : ℕ) (l : List Shown) → c ≤ 13 → SmallShown l → r ≡ node-answer c l → (refusal-of r ≡ c) × (node-of r ≡ l)
 node-taken c r [] h g e = let t = taken 0 c 0 0 0 0 r (omega arith) (omega arith) in (t .at-refusal, rw (t .at-mark))
 node-taken c r (shown k b d ∷ []) h g e =
     let t = taken k c 1 (getD b 0 0) (key-in b) d r (omega (arith, g)) (omega arith) in
@@ -96,6 +97,9 @@ module _ (s : List ℕ) (B : Bytes s) where
 
   pub waiting-fields : {m r : ℕ} {row b : List ℕ} → PackedLent (WaitingList s m row) r b → WaitingList s m row (refusal-of r) (number-of r) b
   waiting-fields = lent-fields (λ c n b. waiting-small s B)
+
+  pub take-back-fields : {m r : ℕ} {row b row′ : List ℕ} → PackedBoth (TakeBack s m row) r b row′ → TakeBack s m row (refusal-of r) (number-of r) b row′
+  take-back-fields (packed {c} {n} f) = let t = number-taken c n (take-small s B f) in rw (t .0, t .1) f
 
   pub first-fields : {p q r : ℕ} → PackedFirst (FirstStep s p q) r → FirstStep s p q (refusal-of r) (found-of r) (p-of r) (q-of r) (label-of r)
   first-fields (packed {c} {n} {p} {q} {l} f) =

@@ -1,4 +1,4 @@
--- Each entry's promise leaves room for one answer, and for one record or row afterwards.
+-- Each entry's promise leaves room for one answer, and for one record and row afterwards.
 use mathlib.Core.Path.{_≡_}
 use mathlib.Core.List.{List}
 use Prim.Native.Nat.{ℕ}
@@ -7,8 +7,10 @@ use Rattle.operations.specs.Ask.{ReadRecord, ShownNode, KeyCount, FreeKey, Firs
 use Rattle.operations.proofs.ChangeOnce.{forward-once, undo-step-once, blank-once}
 use Rattle.operations.proofs.NumberOnce.{read-once, node-once, count-once, free-once, sound-once}
 use Rattle.operations.proofs.RowOnce.{listing-once, waiting-once}
+use Rattle.operations.specs.TakeBack.{TakeBack}
 use Rattle.operations.proofs.FirstOnce.{first-once}
-use Rattle.concoursel.specs.Packed.{PackedStep, PackedNumber, PackedLent, PackedFirst, PackedNode, PackedFirst.packed, PackedNode.packed}
+use Rattle.operations.proofs.TakeBackOnce.{take-back-once}
+use Rattle.concoursel.specs.Packed.{PackedStep, PackedNumber, PackedLent, PackedBoth, PackedFirst, PackedNode, PackedBoth.packed, PackedFirst.packed, PackedNode.packed}
 use Rattle.concoursel.proofs.Packs.{packed-step-once, packed-number-once, packed-lent-once}
 
 module _ (s : List ℕ) where
@@ -35,6 +37,9 @@ module _ (s : List ℕ) where
 
   pub waiting-entry-once : {m r r′ : ℕ} {row b b′ : List ℕ} → PackedLent (WaitingList s m row) r b → PackedLent (WaitingList s m row) r′ b′ → (r ≡ r′) × (b ≡ b′)
   waiting-entry-once = packed-lent-once (λ c c′ n n′ b b′ f g. waiting-once f g)
+
+  pub take-back-entry-once : {m r r′ : ℕ} {row b b′ row₁ row₂ : List ℕ} → PackedBoth (TakeBack s m row) r b row₁ → PackedBoth (TakeBack s m row) r′ b′ row₂ → (r ≡ r′) × (b ≡ b′) × (row₁ ≡ row₂)
+  take-back-entry-once (packed f) (packed g) = let e = take-back-once f g in (rw (e .0, e .1), e .2, e .3)
 
   pub first-entry-once : {p q r r′ : ℕ} → PackedFirst (FirstStep s p q) r → PackedFirst (FirstStep s p q) r′ → r ≡ r′
   first-entry-once (packed f) (packed g) = let e = first-once f g in rw (e .0, e .1, e .2, e .3, e .4)

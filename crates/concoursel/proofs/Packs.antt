@@ -3,7 +3,7 @@ use mathlib.Core.Path.{_≡_}
 use mathlib.Core.List.{List}
 use Prim.Native.Nat.{ℕ}
 use Rattle.ccsk.specs.Term.{Label, Node}
-use Rattle.concoursel.specs.Packed.{step-answer, answer, PackedStep, PackedNumber, PackedLent, PackedFirst, PackedStep.packed, PackedNumber.packed, PackedLent.packed, PackedFirst.packed}
+use Rattle.concoursel.specs.Packed.{step-answer, answer, PackedStep, PackedNumber, PackedLent, PackedBoth, PackedFirst, PackedStep.packed, PackedNumber.packed, PackedLent.packed, PackedBoth.packed, PackedFirst.packed}
 
 pub pack-step : {P : ℕ → Label → List ℕ → Type 0} (r c l : ℕ) (b : List ℕ) → r ≡ step-answer c l → P c l b → PackedStep P r b
 pack-step r c l b e f = rw e (packed f)
@@ -13,6 +13,9 @@ pack-number r c n e f = rw e (packed f)
 
 pub pack-lent : {P : ℕ → ℕ → List ℕ → Type 0} (r c n : ℕ) (b : List ℕ) → r ≡ answer c 0 0 0 n → P c n b → PackedLent P r b
 pack-lent r c n b e f = rw e (packed f)
+
+pub pack-both : {P : ℕ → ℕ → List ℕ → List ℕ → Type 0} (r c n : ℕ) (b row : List ℕ) → r ≡ answer c 0 0 0 n → P c n b row → PackedBoth P r b row
+pack-both r c n b row e f = rw e (packed f)
 
 pub pack-first : {P : ℕ → ℕ → Node → Node → Label → Type 0} (r c n p q l : ℕ) → r ≡ answer c n l p q → P c n p q l → PackedFirst P r
 pack-first r c n p q l e f = rw e (packed f)

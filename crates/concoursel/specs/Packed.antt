@@ -27,6 +27,10 @@ pub data PackedNumber (P : ℕ → ℕ → Type 0) : ℕ → Type 0 where
 pub data PackedLent (P : ℕ → ℕ → List ℕ → Type 0) : ℕ → List ℕ → Type 0 where
   packed : {c n : ℕ} {b : List ℕ} → P c n b → PackedLent P (answer c 0 0 0 n) b
 
+-- An answer that is a number, with the lent record and the lent row afterwards.
+pub data PackedBoth (P : ℕ → ℕ → List ℕ → List ℕ → Type 0) : ℕ → List ℕ → List ℕ → Type 0 where
+  packed : {c n : ℕ} {b row : List ℕ} → P c n b row → PackedBoth P (answer c 0 0 0 n) b row
+
 -- The answer of the search for a step: mark, places and label.
 pub data PackedFirst (P : ℕ → ℕ → Node → Node → Label → Type 0) : ℕ → Type 0 where
   packed : {c n : ℕ} {p q : Node} {l : Label} → P c n p q l → PackedFirst P (answer c n l p q)

@@ -11,9 +11,10 @@ ghost use Rattle.cursor.specs.At.{showing};
 ghost use Rattle.shared.specs.Number as number;
 ghost use Rattle.operations.specs.Ask.{ReadRecord, ShownNode, KeyCount, FreeKey, FirstStep, UndoListing, WaitingList, Soundness};
 ghost use Rattle.operations.specs.Change.{ForwardStep, UndoStep, BlankForm};
+ghost use Rattle.operations.specs.TakeBack.{TakeBack};
 ghost use Rattle.search.specs.First as first;
 ghost use Rattle.steps.specs.Plan as plan;
-ghost use Rattle.concoursel.specs.Packed.{step-answer, answer, node-answer, PackedStep, PackedNumber, PackedLent, PackedFirst, PackedNode};
+ghost use Rattle.concoursel.specs.Packed.{step-answer, answer, node-answer, PackedStep, PackedNumber, PackedLent, PackedBoth, PackedFirst, PackedNode};
 ghost use Rattle.concoursel.specs.Known.{Known};
 
 // What a refusal number is multiplied by: 2^8 in the answer of a step, 2^48 in the other answers.
@@ -182,6 +183,14 @@ pub extern "C" fn concoursel_waiting(record: &[u8], key: u16, list: &mut [u16]) 
     ensures { λ r. ⌜ PackedLent (WaitingList (now («record» .entry)) key (now (list .entry))) r (now (list .exit)) ⌝ }
 {
     packed_number(waiting::waiting(record, Key(key), list))
+}
+
+// Takes the key back with its waiting list, in their order, which goes to the front of the row.
+#[no_mangle]
+pub extern "C" fn concoursel_take_back(record: &mut [u8], key: u16, list: &mut [u16]) -> u64
+    ensures { λ r. ⌜ PackedBoth (TakeBack (now («record» .entry)) key (now (list .entry))) r (now («record» .exit)) (now (list .exit)) ⌝ }
+{
+    packed_number(takeback::take_back(record, Key(key), list))
 }
 
 // Soundness: the verdict.

@@ -11,7 +11,7 @@ packed-number-requires : tie.Need-packed-number-requires
 packed-number-requires c κs = search needs
 
 returns : tie.Need-returns
-returns c = pack-number _ _ _ (c .packed-number .ensures) (c .before .verdict .ensures)
+returns c = pack-number _ _ _ (c .packed-number .ensures) (c .before .verdict .ensures .0)
 
 pub concoursel-verdict-spec : {M : Type 1} → statement M
 concoursel-verdict-spec = tie.close (tie.spec verdict-requires packed-number-requires returns)

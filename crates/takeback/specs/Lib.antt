@@ -1,0 +1,2 @@
+-- What the steps of a take back ask of each other.
+pub mod Linked
