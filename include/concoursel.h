@@ -34,17 +34,18 @@
  *   0    none: the operation is done
  *   1    bytes are no record (also: length 0, or bytes after the whole term)    all
  *   2    over a limit: node 4097 or depth 257                                   all
- *   3    key is 0                                                               forward, undo, waiting
+ *   3    key is 0                                                               forward, undo, waiting, take_back
  *   4    p is no prefix node, or q is not 0 and is no prefix node or at most p  forward
  *   5    key stands in the record already                                       forward
  *   6    the rules derive no such step                                          forward
- *   7    key stands nowhere in the record                                       undo, waiting
+ *   7    key stands nowhere in the record                                       undo, waiting, take_back
  *   8    the rules derive no undo of this key                                   undo
- *   9    lent row shorter than the list                                         undo_listing, waiting
+ *   9    lent row shorter than the list                                         undo_listing, waiting, take_back
+ *   13   record is not sound: its verdict is not 0                              take_back
  *
  * Reading goes from the left and the first offence decides between 1 and 2. Of the others the least number that
- * applies is given, 9 only after all others. With a refusal every other field of the answer is 0, and no byte of
- * the record and no place of a row has changed.
+ * applies is given, with two exceptions: take_back gives 13 after 3 and before 7, and 9 comes only after all others.
+ * With a refusal every other field of the answer is 0, and no byte of the record and no place of a row has changed.
  *
  * MEMORY AND THREADS
  *
@@ -52,7 +53,7 @@
  * allocated. A pointer must be good for the length given with it; with length 0 any pointer will do, null too.
  * Record and row must not overlap.
  * Stack, on x86-64, at the deepest record: up to 4 KiB below read and node; 11 KiB below count, least_free and blank;
- * 50 KiB below forward, undo and waiting; 140 KiB below first, undo_listing and verdict.
+ * 51 KiB below forward, undo and waiting; 140 KiB below first, undo_listing and verdict; 240 KiB below take_back.
  * The library has no state of its own: any number of threads may call it at once, each on a record (and row) that
  * no other thread uses during the call.
  */
@@ -77,6 +78,7 @@ extern "C" {
 #define CONCOURSEL_KEY_ABSENT 7
 #define CONCOURSEL_NO_UNDO 8
 #define CONCOURSEL_ROW_SHORT 9
+#define CONCOURSEL_NOT_SOUND 13
 
 /*
  * The 32-bit answer of forward and undo: refusal * 256 + label. The label is the action seen from outside: that of
@@ -164,6 +166,21 @@ uint64_t concoursel_undo_listing(const uint8_t *record, size_t len, uint16_t *ro
  * A row of 4096 places is always long enough. Refusals: 1, 2, 3, 7, 9.
  */
 uint64_t concoursel_waiting(const uint8_t *record, size_t len, uint16_t key, uint16_t *row, size_t row_len);
+
+/*
+ * Takes back the given key with everything that stands on it, in one command: undoes it and exactly the keys of its
+ * waiting list, and every other key keeps its places. The order is fixed: each time the least key still to go whose
+ * undo is then allowed. Writes the keys in the order in which they went to the front of the row and answers how many;
+ * what lies past them stays as it was. The record is then as concoursel_undo leaves it, called for these keys in this
+ * order.
+ *
+ *   1[1].(2[2].3[3].0 | 4[4].0)     an action with its key
+ *
+ * Taking back key 1 takes back 3, 2, 4 and 1: of 3 and 4, which can go at once, 3 is the least; then 2 can go too.
+ * Allowed for sound records only. The row needs a place for the given key too; one of 4096 places is always long
+ * enough. Refusals, in this order: 1, 2, 3, 13, 7, 9.
+ */
+uint64_t concoursel_take_back(uint8_t *record, size_t len, uint16_t key, uint16_t *row, size_t row_len);
 
 /* Blank form: every key becomes 0. Answers the number of distinct keys removed. Refusals: 1, 2. */
 uint64_t concoursel_blank(uint8_t *record, size_t len);

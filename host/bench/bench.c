@@ -9,7 +9,8 @@
  *
  * Diluting is ONE step of two instruments: the diluter dispenses and the reader's plate is filled. So is handing over
  * the result. The old controller could take back "dilute" in the diluter and leave it standing in the reader. This
- * program shows that such a half step can neither be made nor taken back.
+ * program shows that such a half step can neither be made nor taken back, and that one command takes back "dilute" with
+ * everything that was done on it.
  *
  * The same method as a record, with the channels below; a' is the other end of channel a:
  *
@@ -60,17 +61,20 @@ static const struct step {
     {"LIMS link", "result", 10, 26}, {"LIMS link", "file", 11, 30},
 };
 
+#define STEPS (sizeof steps / sizeof *steps)
+
 static const char *const causes[] = {
-    "done",
-    "bytes are no record",
-    "over a limit",
-    "key is 0",
-    "no such place",
-    "this key stands in the record already",
-    "the rules derive no such step",
-    "this key stands nowhere in the record",
-    "the rules derive no undo of this key",
-    "row too short",
+    [CONCOURSEL_DONE] = "done",
+    [CONCOURSEL_NO_RECORD] = "bytes are no record",
+    [CONCOURSEL_OVER_LIMIT] = "over a limit",
+    [CONCOURSEL_KEY_ZERO] = "key is 0",
+    [CONCOURSEL_NO_PLACE] = "no such place",
+    [CONCOURSEL_KEY_STANDS] = "this key stands in the record already",
+    [CONCOURSEL_NO_STEP] = "the rules derive no such step",
+    [CONCOURSEL_KEY_ABSENT] = "this key stands nowhere in the record",
+    [CONCOURSEL_NO_UNDO] = "the rules derive no undo of this key",
+    [CONCOURSEL_ROW_SHORT] = "row too short",
+    [CONCOURSEL_NOT_SOUND] = "the record is not sound",
 };
 
 static int surprises;
@@ -82,7 +86,7 @@ static unsigned key_of(const struct step *step) {
 /* Prints what each part has done: a done step bears its key. */
 static void show(void) {
     const char *part = "";
-    for (size_t i = 0; i < sizeof steps / sizeof *steps; i++) {
+    for (size_t i = 0; i < STEPS; i++) {
         if (strcmp(part, steps[i].part) != 0) printf("%s    %-10s", i ? "\n" : "", steps[i].part);
         part = steps[i].part;
         if (key_of(&steps[i]) != 0)
@@ -93,7 +97,21 @@ static void show(void) {
     printf("\n");
 }
 
-/* Says what was asked and what came of it, and holds it against what a chemist would expect. */
+/* Holds what came of a call against what a chemist would expect. */
+static void expect(int right) {
+    if (right) return;
+    printf("  -> NOT AS EXPECTED\n");
+    surprises++;
+}
+
+/* Says why a call was refused and whether the record is still as it was. */
+static void tell_refusal(uint8_t refusal, int changed) {
+    const char *cause = refusal < sizeof causes / sizeof *causes ? causes[refusal] : NULL;
+    const char *left = changed ? "CHANGED" : "unchanged";
+    printf("  -> refused %u: %s; the record is %s\n", refusal, cause ? cause : "unknown", left);
+}
+
+/* Says what was asked and what came of it. */
 static void tell(const char *asked, uint32_t answer, uint8_t refusal, uint8_t label, const uint8_t *before) {
     uint8_t got = CONCOURSEL_STEP_REFUSAL(answer);
     int changed = memcmp(before, method, sizeof method) != 0;
@@ -101,11 +119,8 @@ static void tell(const char *asked, uint32_t answer, uint8_t refusal, uint8_t la
     if (got == CONCOURSEL_DONE)
         printf("  -> done, label %u%s\n", CONCOURSEL_STEP_LABEL(answer), CONCOURSEL_STEP_LABEL(answer) ? "" : " (a step inside the bench)");
     else
-        printf("  -> refused %u: %s; the record is %s\n", got, got < 10 ? causes[got] : "unknown", changed ? "CHANGED" : "unchanged");
-    if (got != refusal || CONCOURSEL_STEP_LABEL(answer) != label || changed != (refusal == CONCOURSEL_DONE)) {
-        printf("  -> NOT AS EXPECTED\n");
-        surprises++;
-    }
+        tell_refusal(got, changed);
+    expect(got == refusal && CONCOURSEL_STEP_LABEL(answer) == label && changed == (refusal == CONCOURSEL_DONE));
     if (got == CONCOURSEL_DONE) show();
 }
 
@@ -121,19 +136,53 @@ static void undo(const char *asked, uint16_t key, uint8_t refusal, uint8_t label
     tell(asked, concoursel_undo(method, sizeof method, key), refusal, label, before);
 }
 
-/* Says which keys have to be taken back before this one, and holds them against those that a chemist would expect. */
-static void waiting(const char *asked, uint16_t key, const uint16_t *expected, size_t count) {
-    uint16_t row[sizeof steps / sizeof *steps]; /* a key marks a step, so there are no more keys than steps */
-    uint64_t answer = concoursel_waiting(method, sizeof method, key, row, sizeof row / sizeof *row);
+/* Prints the keys that an answer has put into the row, and holds them against those that a chemist would expect. */
+static void tell_keys(const char *what, uint64_t answer, const uint16_t *row, const uint16_t *expected, size_t count) {
     size_t number = CONCOURSEL_NUMBER(answer);
-    printf("%s\n  ->", asked);
-    for (size_t i = 0; i < number; i++) printf("%s key %u", i ? "," : "", row[i]);
-    printf("%s\n", number ? "" : " nothing");
+    printf("  -> %s", what);
+    for (size_t i = 0; i < number; i++) printf("%skey %u", i ? ", " : "", row[i]);
+    printf("%s\n", number ? "" : "nothing");
     int right = number == count && memcmp(row, expected, count * sizeof *row) == 0;
-    if (CONCOURSEL_REFUSAL(answer) != CONCOURSEL_DONE || !right) {
-        printf("  -> NOT AS EXPECTED\n");
-        surprises++;
-    }
+    expect(CONCOURSEL_REFUSAL(answer) == CONCOURSEL_DONE && right);
+}
+
+/* Says which keys have to be taken back before this one. A key marks a step, so there are no more keys than steps. */
+static void waiting(const char *asked, uint16_t key, const uint16_t *expected, size_t count) {
+    uint16_t row[STEPS];
+    uint64_t answer = concoursel_waiting(method, sizeof method, key, row, STEPS);
+    printf("%s\n", asked);
+    tell_keys("", answer, row, expected, count);
+}
+
+/* Takes back this key with everything that stands on it, and says what went. */
+static void take_back(const char *asked, uint16_t key, const uint16_t *expected, size_t count) {
+    uint16_t row[STEPS];
+    uint64_t answer = concoursel_take_back(method, sizeof method, key, row, STEPS);
+    printf("%s\n", asked);
+    tell_keys("gone, in this order: ", answer, row, expected, count);
+    show();
+}
+
+/* Asks for the same with room for so many keys, and is refused. */
+static void take_nothing_back(const char *asked, uint16_t key, size_t room, uint8_t refusal) {
+    uint8_t before[sizeof method];
+    uint16_t row[STEPS];
+    memcpy(before, method, sizeof method);
+    uint64_t answer = concoursel_take_back(method, sizeof method, key, row, room);
+    int changed = memcmp(before, method, sizeof method) != 0;
+    printf("%s\n", asked);
+    tell_refusal(CONCOURSEL_REFUSAL(answer), changed);
+    expect(CONCOURSEL_REFUSAL(answer) == refusal && CONCOURSEL_NUMBER(answer) == 0 && !changed);
+}
+
+/* The record as the old controller would have left it: dilute taken back in the diluter, standing in the reader. */
+static void half_taken_back(void) {
+    uint8_t whole[sizeof method];
+    memcpy(whole, method, sizeof method);
+    memset(method + steps[1].key_at, 0, 2);
+    show();
+    take_nothing_back("take back dilute (key 2) here, with what stands on it", 2, STEPS, CONCOURSEL_NOT_SOUND);
+    memcpy(method, whole, sizeof method);
 }
 
 int main(void) {
@@ -165,6 +214,17 @@ int main(void) {
     undo("take back the hand-over (key 3)", 3, CONCOURSEL_DONE, 0);
     undo("take back dilute (key 2), whole: diluter and reader", 2, CONCOURSEL_DONE, 0);
     undo("take back dilute (key 2) once more", 2, CONCOURSEL_KEY_ABSENT, 0);
+
+    printf("\n-- forward again, then back in one command --\n");
+    forward("dilute, diluter and reader together (key 2)", 4, 7, 2, CONCOURSEL_DONE, 0);
+    forward("hand over the result, reader and LIMS link together (key 3)", 8, 10, 3, CONCOURSEL_DONE, 0);
+    forward("file the result (LIMS link, key 4)", 11, 0, 4, CONCOURSEL_DONE, FILED);
+    printf("The old controller would now have left half a dilute behind:\n");
+    half_taken_back();
+    printf("The plate was a wrong one: dilute has to go, and the hand-over and the filing stand on it.\n");
+    take_nothing_back("take back dilute (key 2) with what stands on it, room for two keys", 2, 2, CONCOURSEL_ROW_SHORT);
+    take_back("take back dilute (key 2) with what stands on it", 2, (const uint16_t[]){4, 3, 2}, 3);
+    take_nothing_back("take back dilute (key 2) with what stands on it once more", 2, STEPS, CONCOURSEL_KEY_ABSENT);
     undo("take back the sample (key 1)", 1, CONCOURSEL_DONE, SAMPLE);
 
     if (memcmp(blank, method, sizeof method) != 0) surprises++;

@@ -17,7 +17,7 @@
 
 #include "concoursel.h"
 
-enum { READ, FORWARD, UNDO, FIRST, COUNT, LEAST_FREE, UNDO_LISTING, WAITING, BLANK, VERDICT, NODE };
+enum { READ, FORWARD, UNDO, FIRST, COUNT, LEAST_FREE, UNDO_LISTING, WAITING, BLANK, VERDICT, NODE, TAKE_BACK };
 
 struct request {
     uint8_t op;
@@ -66,6 +66,9 @@ static int call(const struct request *r, uint8_t *record, uint16_t *row, uint64_
 #endif
 #ifdef HAS_node
     case NODE: *answer = concoursel_node(record, r->len, r->p); return 1;
+#endif
+#ifdef HAS_take_back
+    case TAKE_BACK: *answer = concoursel_take_back(record, r->len, r->key, row, r->row_len); return 1;
 #endif
     default: return 0;
     }

@@ -42,11 +42,28 @@ pub enum Call {
     Node {
         n: u16,
     },
+    TakeBack {
+        key: u16,
+        row: usize,
+        fill: u16,
+    },
 }
 
 /// The operations by their numbers.
-const NAMES: [&str; 11] =
-    ["read", "forward", "undo", "first", "count", "least_free", "undo_listing", "waiting", "blank", "verdict", "node"];
+const NAMES: [&str; 12] = [
+    "read",
+    "forward",
+    "undo",
+    "first",
+    "count",
+    "least_free",
+    "undo_listing",
+    "waiting",
+    "blank",
+    "verdict",
+    "node",
+    "take_back",
+];
 
 impl Call {
     pub fn name(&self) -> &'static str {
@@ -67,6 +84,7 @@ impl Call {
             Call::Blank => 8,
             Call::Verdict => 9,
             Call::Node { .. } => 10,
+            Call::TakeBack { .. } => 11,
         }
     }
 
@@ -74,7 +92,7 @@ impl Call {
     pub fn numbers(&self) -> (u16, u16, u16) {
         match *self {
             Call::Forward { p, q, key } => (p, q, key),
-            Call::Undo { key } | Call::Waiting { key, .. } => (0, 0, key),
+            Call::Undo { key } | Call::Waiting { key, .. } | Call::TakeBack { key, .. } => (0, 0, key),
             Call::First { p, q } => (p, q, 0),
             Call::Node { n } => (n, 0, 0),
             _ => (0, 0, 0),
@@ -84,7 +102,9 @@ impl Call {
     /// The row as it is lent.
     pub fn lent_row(&self) -> Vec<u16> {
         match *self {
-            Call::UndoListing { row, fill } | Call::Waiting { row, fill, .. } => vec![fill; row],
+            Call::UndoListing { row, fill } | Call::Waiting { row, fill, .. } | Call::TakeBack { row, fill, .. } => {
+                vec![fill; row]
+            }
             _ => Vec::new(),
         }
     }
@@ -100,7 +120,9 @@ impl fmt::Display for Call {
             Call::First { p, q } => write!(to, " p={p} q={q}"),
             Call::Node { n } => write!(to, " n={n}"),
             Call::UndoListing { row, fill } => write!(to, " row={row} fill={fill}"),
-            Call::Waiting { key, row, fill } => write!(to, " key={key} row={row} fill={fill}"),
+            Call::Waiting { key, row, fill } | Call::TakeBack { key, row, fill } => {
+                write!(to, " key={key} row={row} fill={fill}")
+            }
             _ => Ok(()),
         }
     }
@@ -119,6 +141,11 @@ fn pack_node(node: reference::Shown) -> u64 {
 
 fn pack_number(answer: Result<u16, u8>) -> u64 {
     answer.map_or_else(|refusal| pack(refusal, 0, 0, 0, 0), u64::from)
+}
+
+/// How many nodes or keys there are; their limit keeps the number within 16 bits.
+fn pack_count(answer: Result<usize, u8>) -> u64 {
+    pack_number(answer.map(|count| count as u16))
 }
 
 fn pack_step(answer: Result<u8, u8>) -> u64 {
@@ -144,7 +171,7 @@ impl Side {
 
 fn reference_answer(call: &Call, record: &mut [u8], row: &mut [u16]) -> u64 {
     match *call {
-        Call::Read => pack_number(reference::read(record).map(|nodes| nodes as u16)),
+        Call::Read => pack_count(reference::read(record)),
         Call::Forward { p, q, key } => pack_step(reference::forward(record, p, q, key)),
         Call::Undo { key } => pack_step(reference::undo(record, key)),
         Call::First { p, q } => match reference::first(record, p, q) {
@@ -154,14 +181,15 @@ fn reference_answer(call: &Call, record: &mut [u8], row: &mut [u16]) -> u64 {
         },
         Call::Count => pack_number(reference::count(record)),
         Call::LeastFree => pack_number(reference::least_free(record)),
-        Call::UndoListing { .. } => pack_number(reference::undo_listing(record, row).map(|count| count as u16)),
-        Call::Waiting { key, .. } => pack_number(reference::waiting(record, key, row).map(|count| count as u16)),
+        Call::UndoListing { .. } => pack_count(reference::undo_listing(record, row)),
+        Call::Waiting { key, .. } => pack_count(reference::waiting(record, key, row)),
         Call::Blank => pack_number(reference::blank(record)),
         Call::Verdict => pack_number(reference::verdict(record).map(u16::from)),
         Call::Node { n } => match reference::node(record, n) {
             Ok(node) => node.map_or(0, pack_node),
             Err(refusal) => pack(refusal, 0, 0, 0, 0),
         },
+        Call::TakeBack { key, .. } => pack_count(reference::take_back(record, key, row)),
     }
 }
 
@@ -171,6 +199,13 @@ pub struct Outcome {
     pub answer: u64,
     pub record: Vec<u8>,
     pub row: Vec<u16>,
+}
+
+impl Outcome {
+    /// The keys at the front of the row, as many as the answer says.
+    pub fn listed(&self) -> &[u16] {
+        &self.row[..self.answer as u16 as usize]
+    }
 }
 
 impl fmt::Display for Outcome {

@@ -5,7 +5,7 @@ use crate::numbers::Random;
 use crate::records::EDGE_KEYS;
 
 /// One call of each operation.
-pub const ONE_OF_EACH: [Call; 11] = [
+pub const ONE_OF_EACH: [Call; 12] = [
     Call::Read,
     Call::Forward { p: 0, q: 0, key: 1 },
     Call::Undo { key: 1 },
@@ -17,6 +17,7 @@ pub const ONE_OF_EACH: [Call; 11] = [
     Call::Blank,
     Call::Verdict,
     Call::Node { n: 0 },
+    Call::TakeBack { key: 1, row: 4096, fill: 0 },
 ];
 
 /// The distinct keys of a record in order of appearance; none of a record that is refused.
@@ -24,6 +25,15 @@ pub fn keys(record: &[u8]) -> Vec<u16> {
     let mut seen = std::collections::HashSet::new();
     let nodes = reference::walk(record).unwrap_or_default();
     nodes.iter().map(|node| node.key()).filter(|&key| key != 0 && seen.insert(key)).collect()
+}
+
+/// Keys that chains are followed from: the first that the record shows and the last, since a chain begins at the one or
+/// at the other, and the one with the longest waiting list. Without any key it is 1 each time.
+pub fn chain_keys(record: &[u8]) -> [u16; 3] {
+    let keys = keys(record);
+    let waiting = |key: u16| reference::waiting(record, key, &mut [0; 4096]);
+    let longest = keys.iter().max_by_key(|&&key| waiting(key));
+    [keys.first(), keys.last(), longest].map(|key| key.copied().unwrap_or(1))
 }
 
 /// The calls for one record.
@@ -55,9 +65,10 @@ pub fn calls(random: &mut Random, record: &[u8]) -> Vec<Call> {
     let first = keys.first().copied().unwrap_or(1);
     for key in [0, first, any_key(random), any_key(random), any_key(random)] {
         calls.push(Call::Undo { key });
-        waiting_rows(record, key, &mut calls);
+        calls.extend(rows(record, |row, fill| Call::Waiting { key, row, fill }));
+        calls.extend(rows(record, |row, fill| Call::TakeBack { key, row, fill }));
     }
-    undo_rows(record, &mut calls);
+    calls.extend(rows(record, |row, fill| Call::UndoListing { row, fill }));
     calls
 }
 
@@ -81,19 +92,9 @@ fn steps(random: &mut Random, record: &[u8], calls: &mut Vec<Call>, any_key: imp
     }
 }
 
-/// Rows of length 0, one too short, exact and longer.
-fn row_lengths(count: usize) -> [(usize, u16); 4] {
-    [(0, 0), (count.saturating_sub(1), 77), (count, 65535), (count + 3, 4660)]
-}
-
-fn waiting_rows(record: &[u8], key: u16, calls: &mut Vec<Call>) {
-    let list = Side::Reference.run(&Call::Waiting { key, row: 4096, fill: 0 }, record);
-    let count = list.map_or(0, |list| list.answer as u16);
-    calls.extend(row_lengths(count.into()).map(|(row, fill)| Call::Waiting { key, row, fill }));
-}
-
-fn undo_rows(record: &[u8], calls: &mut Vec<Call>) {
-    let list = Side::Reference.run(&Call::UndoListing { row: 4096, fill: 0 }, record);
-    let count = list.map_or(0, |list| list.answer as u16);
-    calls.extend(row_lengths(count.into()).map(|(row, fill)| Call::UndoListing { row, fill }));
+/// The call with rows of length 0, one too short, exact and longer.
+fn rows(record: &[u8], call: impl Fn(usize, u16) -> Call) -> [Call; 4] {
+    let whole = Side::Reference.run(&call(4096, 0), record).expect("the reference has every operation");
+    let count = whole.listed().len();
+    [(0, 0), (count.saturating_sub(1), 77), (count, 65535), (count + 3, 4660)].map(|(row, fill)| call(row, fill))
 }

@@ -20,7 +20,7 @@ compare entries                          the entries of the library that this pr
 compare vectors reference|archive FILE.. every line of the files with right answers
 compare program PROGRAM FILE..           the listing program on every listing line of the files
 compare random N SEED                    N random records, every operation, both sides
-compare runs N SEED                      N sound records taken back to their blank form and done again
+compare runs N SEED                      N sound records taken back, key by key and at once, and done again
 compare speed                            time of the library over time of the plain implementation
 compare growth                           time of each operation at 500 to 4,000 nodes
 compare stack                            bytes of stack that each entry touches

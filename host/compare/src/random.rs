@@ -14,8 +14,10 @@ pub fn check(cases: u64, seed: u64) -> bool {
         tally.sort(&record);
         for call in cases::calls(&mut random, &record) {
             let right = Side::Reference.run(&call, &record).expect("the reference has every operation");
-            if matches!(call, Call::Waiting { .. }) {
-                tally.longest = tally.longest.max(right.answer as u16);
+            match call {
+                Call::Waiting { .. } => tally.longest = tally.longest.max(right.listed().len()),
+                Call::TakeBack { .. } => tally.most = tally.most.max(right.listed().len()),
+                _ => (),
             }
             match Side::Archive.run(&call, &record) {
                 None => tally.skipped += 1,
@@ -51,7 +53,9 @@ struct Tally {
     /// Readable records of the largest size or depth.
     limits: u64,
     /// Keys in the longest waiting list.
-    longest: u16,
+    longest: usize,
+    /// The most keys taken back at once.
+    most: usize,
 }
 
 /// Two different conditions, counted from 0. All 21 pairs can fail at once: side by side, each on keys of its own.
@@ -81,7 +85,7 @@ impl std::fmt::Display for Tally {
         let (verdicts, refused, limits) = (self.verdicts, &self.refused[1..], self.limits);
         let (fewest, i, j) = pairs().map(|(i, j)| (self.pairs[i][j], i + 1, j + 1)).min().expect("there are pairs");
         write!(to, "records by verdict 0 to 7 {verdicts:?}, refused 1 and 2 {refused:?}, at a limit {limits}, ")?;
-        write!(to, "longest waiting list {}, ", self.longest)?;
+        write!(to, "longest waiting list {}, most keys taken back at once {}, ", self.longest, self.most)?;
         write!(to, "each two conditions fail at once {fewest} times or more with none below, {i} and {j} the fewest")
     }
 }

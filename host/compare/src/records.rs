@@ -3,7 +3,7 @@
 use reference::{DEPTH_LIMIT, NODE_LIMIT};
 
 use crate::numbers::Random;
-use crate::shapes::{balanced, crossing, PARALLEL};
+use crate::shapes::{balanced, crossing, CHOICE, PARALLEL};
 
 /// Keys at the edges of their two bytes.
 pub const EDGE_KEYS: [u16; 9] = [1, 2, 255, 256, 257, 32767, 32768, 65534, 65535];
@@ -239,6 +239,24 @@ fn chained(random: &mut Random) -> Vec<u8> {
     balanced(PARALLEL, &parts)
 }
 
+/// A term of prefixes and parallels, every prefix done with a key of its own, in any order: much stands on one key.
+pub fn all_done(random: &mut Random) -> Vec<u8> {
+    let weights = random.pick(&[[5, 0, 4, 0], [3, 0, 6, 0], [8, 0, 1, 0]]);
+    let style = Style { weights, names: 3, tau: 5, done: 100, keys: 1 };
+    let mut bytes = Vec::new();
+    let size = size(random);
+    style.term(random, size, DEPTH_LIMIT, &mut bytes);
+    // A large term has choices as well, and only one side of a choice can be done.
+    let nodes = reference::walk(&bytes).unwrap_or_default();
+    let choices: Vec<usize> = nodes.iter().filter(|node| node.kind == CHOICE).map(|node| node.offset).collect();
+    choices.into_iter().for_each(|at| bytes[at] = PARALLEL);
+    let places = key_offsets(&bytes);
+    for (at, key) in places.iter().zip(keys_in_any_order(random, places.len())) {
+        bytes[*at..at + 2].copy_from_slice(&key.to_be_bytes());
+    }
+    bytes
+}
+
 /// For each condition of soundness a record that fails it and no other (01, Examples on both sides). The keys are 1 and 2.
 const FAULTS: [&[u8]; 7] = [
     &[1, 1, 0, 0, 1, 2, 0, 1, 0],
@@ -271,7 +289,8 @@ pub fn any(random: &mut Random) -> Vec<u8> {
     let mut bytes = match random.below(100) {
         0..=24 => scattered(random),
         25..=44 => crossed(random),
-        45..=79 => sound(random),
+        45..=73 => sound(random),
+        74..=79 => all_done(random),
         80..=91 => chained(random),
         92..=96 => faults(random),
         _ => deep(random),

@@ -1,30 +1,36 @@
 //! Whole runs: a sound record is taken back key by key in a random order, then done again by its places. Before a key
-//! goes, all keys of its waiting list have gone.
+//! goes, all keys of its waiting list have gone. And a key is taken back at once with what stands on it, then by hand.
 
-use crate::call::{hex, Call, Side};
+use crate::call::{hex, Call, Outcome, Side};
+use crate::cases;
 use crate::numbers::Random;
 use crate::random;
 use crate::records;
 
-/// True if every run comes to the blank form in as many undos as there are keys, and back to the same bytes.
+/// True if every run comes to the blank form in as many undos as there are keys, and back to the same bytes, and if a
+/// key taken back at once leaves what the same undos leave by hand.
 pub fn check(runs: u64, seed: u64) -> bool {
     let mut random = Random(seed);
-    let mut undos = 0;
+    let (mut undos, mut at_once) = (0, 0);
     for run in 0..runs {
-        let record = records::sound(&mut random);
-        if reference::read(&record).is_err() {
+        let record = if random.percent(20) { records::all_done(&mut random) } else { records::sound(&mut random) };
+        if reference::verdict(&record) != Ok(0) {
             continue;
         }
-        match there_and_back(&mut random, &record) {
-            Ok(count) => undos += count,
+        let outcome = there_and_back(&mut random, &record).and_then(|count| {
+            undos += count;
+            back_at_once(&mut random, &record)
+        });
+        match outcome {
+            Ok(count) => at_once += count,
             Err(fault) => {
                 println!("DIFFERENCE in run {run}: {fault}\n  record {}", hex(&record));
                 return false;
             }
         }
     }
-    println!("runs {runs} {seed}: {undos} undos and as many steps agree");
-    undos > 0
+    println!("runs {runs} {seed}: {undos} undos and as many steps agree, {at_once} undos at once and by hand");
+    undos > 0 && at_once > 0
 }
 
 /// A step taken back: its places, key and label.
@@ -41,14 +47,13 @@ fn there_and_back(random: &mut Random, start: &[u8]) -> Result<u64, String> {
     let mut taken = Vec::new();
     loop {
         let listing = ask(&Call::UndoListing { row: 4096, fill: 0 }, &record)?;
-        let allowed = listing.answer as usize;
-        if allowed == 0 {
+        if listing.listed().is_empty() {
             break;
         }
-        let key = random.pick(&listing.row[..allowed]);
+        let key = random.pick(listing.listed());
         let waiting = ask(&Call::Waiting { key, row: 4096, fill: 0 }, start)?;
         let gone = |waited: &u16| taken.iter().any(|step: &Taken| step.key == *waited);
-        if !waiting.row[..waiting.answer as usize].iter().all(gone) {
+        if !waiting.listed().iter().all(gone) {
             return Err(format!("key {key} goes before its waiting list, after {} undos", taken.len()));
         }
         let (p, q) = places(&record, key);
@@ -77,8 +82,39 @@ fn there_and_back(random: &mut Random, start: &[u8]) -> Result<u64, String> {
     Ok(count)
 }
 
+/// Takes back a random key at once, then the same keys one by one in the order answered: each is then the least that can
+/// go of those still to go, and both ways end in the same bytes. Answers how many keys went.
+fn back_at_once(random: &mut Random, start: &[u8]) -> Result<u64, String> {
+    let keys = cases::keys(start);
+    if keys.is_empty() {
+        return Ok(0);
+    }
+    let key = random.pick(&keys);
+    let at_once = ask(&Call::TakeBack { key, row: 4096, fill: 0 }, start)?;
+    let order = at_once.listed();
+    let waiting = ask(&Call::Waiting { key, row: 4096, fill: 0 }, start)?;
+    let mut still = [waiting.listed(), &[key]].concat();
+    let mut record = start.to_vec();
+    for &next in order {
+        let listing = ask(&Call::UndoListing { row: 4096, fill: 0 }, &record)?;
+        if listing.listed().iter().find(|key| still.contains(key)) != Some(&next) {
+            return Err(format!("key {next} goes with key {key} before its turn: {order:?}"));
+        }
+        let outcome = ask(&Call::Undo { key: next }, &record)?;
+        if outcome.answer >= 256 {
+            return Err(format!("key {next} goes with key {key}, but its undo is refused: {order:?}"));
+        }
+        still.retain(|&other| other != next);
+        record = outcome.record;
+    }
+    if !still.is_empty() || record != at_once.record {
+        return Err(format!("key {key} taken back at once leaves other bytes than by hand, or {still:?} did not go"));
+    }
+    Ok(order.len() as u64)
+}
+
 /// The library's outcome, held against the reference; the reference's own where there is no entry yet.
-fn ask(call: &Call, record: &[u8]) -> Result<crate::call::Outcome, String> {
+fn ask(call: &Call, record: &[u8]) -> Result<Outcome, String> {
     let right = Side::Reference.run(call, record).expect("the reference has every operation");
     if let Some(found) = Side::Archive.run(call, record) {
         if found != right {

@@ -18,15 +18,18 @@ pub const SHAPES: [Shape; 14] = [
     ("half a, half a', blank", |nodes| halves(nodes, false)),
     ("half a, half a', joined", |nodes| halves(nodes, true)),
     ("pairs of long chains", chain_pairs),
-    ("causal chain", |nodes| chain(nodes, 2, |_| ())),
+    ("causal chain", |nodes| chain(nodes, 2, ascending)),
     ("causal chain, backwards", backwards),
 ];
 
-/// More shapes for the waiting list alone: long lists, rings, and keys that share a drawer.
-pub const CHAINS: [Shape; 8] = [
-    ("chain, keys descending", |nodes| chain(nodes, 2, |keys| keys.reverse())),
-    ("chain, keys shuffled", |nodes| chain(nodes, 2, |keys| Random(1).shuffle(keys))),
-    ("chain, 32 keys a part", |nodes| chain(nodes, 32, |keys| Random(1).shuffle(keys))),
+/// More shapes for what follows chains alone: long lists, rings, keys that share a drawer, and much that stands on one
+/// key in every order of the keys' numbers.
+pub const CHAINS: [Shape; 20] = [
+    ("chain, keys descending", |nodes| chain(nodes, 2, descending)),
+    ("chain, keys shuffled", |nodes| chain(nodes, 2, shuffled)),
+    ("chain, keys far apart", |nodes| chain(nodes, 2, far_apart)),
+    ("chain, keys in zigzag", |nodes| chain(nodes, 2, zigzag)),
+    ("chain, 32 keys a part", |nodes| chain(nodes, 32, shuffled)),
     ("ring", |nodes| chain(nodes, 32, |keys| keys[keys.len() - 1] = keys[0])),
     ("one key in every place", |nodes| chain(nodes, 32, |keys| keys.fill(7))),
     ("16 keys equal mod 4,096", |nodes| {
@@ -36,10 +39,20 @@ pub const CHAINS: [Shape; 8] = [
     ("16 keys of one drawer", |nodes| {
         chain(nodes, 32, |keys| keys.iter_mut().for_each(|key| *key = 4096 * (*key % 16) + 4095 - 257 * (*key % 16)))
     }),
-    ("one key above all others", star),
+    ("one key above all others", |nodes| fan(nodes, ascending)),
+    ("fan, keys descending", |nodes| fan(nodes, descending)),
+    ("fan, keys shuffled", |nodes| fan(nodes, shuffled)),
+    ("fan, keys far apart", |nodes| fan(nodes, far_apart)),
+    ("fan of joined steps", |nodes| joined_fan(nodes, shuffled)),
+    ("fan of chains, ascending", |nodes| fan_of_chains(nodes, ascending)),
+    ("fan of chains, descending", |nodes| fan_of_chains(nodes, descending)),
+    ("fan of chains, shuffled", |nodes| fan_of_chains(nodes, shuffled)),
+    ("fan of chains, far apart", |nodes| fan_of_chains(nodes, far_apart)),
+    ("tree of keys, ascending", |nodes| tree(nodes, ascending)),
+    ("tree of keys, shuffled", |nodes| tree(nodes, shuffled)),
 ];
 
-const CHOICE: u8 = 2;
+pub const CHOICE: u8 = 2;
 pub const PARALLEL: u8 = 3;
 
 fn prefix(action: u8, key: usize, rest: Vec<u8>) -> Vec<u8> {
@@ -171,27 +184,92 @@ pub fn crossing(keys: &[u16], length: usize) -> Vec<Vec<u8>> {
     (0..keys.len() - 1).step_by(length - 1).map(part).collect()
 }
 
-/// As many keys as chains from part to part of so many nodes have: 1, 2, 3 and so on.
-fn chain_keys(nodes: usize, length: usize) -> Vec<u16> {
-    (1..).take(nodes / (length + 2) * (length - 1) + 1).collect()
+/// The parts of a chain of so many nodes that crosses from part to part.
+fn chain_parts(nodes: usize, length: usize, change: fn(&mut [u16])) -> Vec<Vec<u8>> {
+    crossing(&keys_in_order(nodes / (length + 2) * (length - 1) + 1, change), length)
 }
 
-/// A chain from part to part, the keys as they are or what is made of them.
 fn chain(nodes: usize, length: usize, change: fn(&mut [u16])) -> Vec<u8> {
-    let mut keys = chain_keys(nodes, length);
-    change(&mut keys);
-    balanced(PARALLEL, &crossing(&keys, length))
+    balanced(PARALLEL, &chain_parts(nodes, length, change))
 }
 
 /// The first part of the chain at the end of the record.
 fn backwards(nodes: usize) -> Vec<u8> {
-    let mut parts = crossing(&chain_keys(nodes, 2), 2);
+    let mut parts = chain_parts(nodes, 2, ascending);
     parts.reverse();
     balanced(PARALLEL, &parts)
 }
 
+/// The keys 1, 2, 3 and so on, or what is made of them.
+fn keys_in_order(count: usize, change: fn(&mut [u16])) -> Vec<u16> {
+    let mut keys: Vec<u16> = (1..).take(count).collect();
+    change(&mut keys);
+    keys
+}
+
+fn ascending(_: &mut [u16]) {}
+
+fn descending(keys: &mut [u16]) {
+    keys.reverse();
+}
+
+fn shuffled(keys: &mut [u16]) {
+    Random(1).shuffle(keys);
+}
+
+/// Spread over all 16-bit numbers, in no order.
+fn far_apart(keys: &mut [u16]) {
+    let apart = u16::MAX / keys.len() as u16;
+    keys.iter_mut().for_each(|key| *key *= apart);
+    shuffled(keys);
+}
+
+/// The least, the greatest, the second least, the second greatest and so on.
+fn zigzag(keys: &mut [u16]) {
+    let ascending = keys.to_vec();
+    let (mut least, mut greatest) = (ascending.iter(), ascending.iter().rev());
+    for (at, key) in keys.iter_mut().enumerate() {
+        let next = if at % 2 == 0 { least.next() } else { greatest.next() };
+        *key = *next.expect("each has as many");
+    }
+}
+
+/// Prefixes with these keys side by side.
+fn side_by_side(co_names: u8, keys: &[u16]) -> Vec<u8> {
+    let leaf = |(i, &key): (usize, &u16)| prefix(name(i) + co_names, key.into(), nil());
+    balanced(PARALLEL, &keys.iter().enumerate().map(leaf).collect::<Vec<_>>())
+}
+
 /// One key above all others, which stand side by side.
-fn star(nodes: usize) -> Vec<u8> {
-    let leaf = |i: usize| prefix(name(i), i + 1, nil());
-    prefix(1, 1, balanced(PARALLEL, &(1..nodes / 3).map(leaf).collect::<Vec<_>>()))
+fn fan(nodes: usize, change: fn(&mut [u16])) -> Vec<u8> {
+    let keys = keys_in_order(nodes / 3, change);
+    prefix(1, keys[0].into(), side_by_side(0, &keys[1..]))
+}
+
+/// Two fans that made all their steps together.
+fn joined_fan(nodes: usize, change: fn(&mut [u16])) -> Vec<u8> {
+    let keys = keys_in_order(nodes / 6, change);
+    let half = |co_names: u8| prefix(1 + co_names, keys[0].into(), side_by_side(co_names, &keys[1..]));
+    both(PARALLEL, &half(0), &half(128))
+}
+
+/// One key above chains of up to 240 prefixes.
+fn fan_of_chains(nodes: usize, change: fn(&mut [u16])) -> Vec<u8> {
+    let length = 240.min(nodes / 4);
+    let keys = keys_in_order((nodes - 1) / (length + 2) * length + 1, change);
+    let chain = |keys: &[u16]| keys.iter().rev().fold(nil(), |rest, &key| prefix(1, key.into(), rest));
+    prefix(1, keys[0].into(), balanced(PARALLEL, &keys[1..].chunks(length).map(chain).collect::<Vec<_>>()))
+}
+
+/// Each key above two others.
+fn tree(nodes: usize, change: fn(&mut [u16])) -> Vec<u8> {
+    fn from(keys: &[u16], at: usize) -> Vec<u8> {
+        let Some(&key) = keys.get(at) else { return nil() };
+        let rest = match 2 * at + 1 {
+            below if below < keys.len() => both(PARALLEL, &from(keys, below), &from(keys, below + 1)),
+            _ => nil(),
+        };
+        prefix(1, key.into(), rest)
+    }
+    from(&keys_in_order((nodes - 1) / 2, change), 0)
 }

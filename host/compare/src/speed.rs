@@ -14,18 +14,29 @@ const SAMPLES: usize = 7;
 /// Calls to be timed, with a word where one operation is timed in two ways.
 type Calls = Vec<(&'static str, Call)>;
 
-/// Every shape with the calls that are timed on it: all operations, and on the chains the waiting list alone.
+/// Every shape with the calls that are timed on it: all operations, and on the chains those that follow chains.
 fn shapes() -> impl Iterator<Item = (Shape, fn(&[u8]) -> Calls)> {
     let all = SHAPES.map(|shape| (shape, all_calls as fn(&[u8]) -> Calls));
-    let chains = CHAINS.map(|shape| (shape, waiting_calls as fn(&[u8]) -> Calls));
+    let chains = CHAINS.map(|shape| (shape, chain_calls as fn(&[u8]) -> Calls));
     all.into_iter().chain(chains)
 }
 
-/// The waiting lists of the first key that the record shows and of the last: a chain begins at the one or at the other.
-fn waiting_calls(record: &[u8]) -> Calls {
-    let keys = cases::keys(record);
-    let waiting = |key: Option<&u16>| Call::Waiting { key: key.copied().unwrap_or(1), row: 4096, fill: 0 };
-    vec![("waiting, first", waiting(keys.first())), ("waiting, last", waiting(keys.last()))]
+/// Waiting lists, and what is taken back: nothing of a record that is not sound, so it is not timed there.
+fn chain_calls(record: &[u8]) -> Calls {
+    let (row, fill) = (4096, 0);
+    let [first, last, longest] = cases::chain_keys(record);
+    let mut calls = vec![
+        ("waiting, first", Call::Waiting { key: first, row, fill }),
+        ("waiting, last", Call::Waiting { key: last, row, fill }),
+    ];
+    if reference::verdict(record) == Ok(0) {
+        calls.extend([
+            ("take_back, first", Call::TakeBack { key: first, row, fill }),
+            ("take_back, last", Call::TakeBack { key: last, row, fill }),
+            ("take_back, most", Call::TakeBack { key: longest, row, fill }),
+        ]);
+    }
+    calls
 }
 
 fn all_calls(record: &[u8]) -> Calls {
@@ -51,7 +62,7 @@ fn all_calls(record: &[u8]) -> Calls {
         ("verdict", Call::Verdict),
         ("node, last", Call::Node { n: nodes.len() as u16 - 1 }),
     ];
-    calls.extend(waiting_calls(record));
+    calls.extend(chain_calls(record));
     calls
 }
 

@@ -40,8 +40,9 @@ fn calls(record: &[u8]) -> Vec<Call> {
     for &(p, q) in steps.first().into_iter().chain(steps.last()) {
         calls.extend([Call::Forward { p, q, key }, Call::First { p, q: q + 1 }]);
     }
-    for &key in cases::keys(record).first().into_iter().chain(cases::keys(record).last()) {
-        calls.extend([Call::Undo { key }, Call::Waiting { key, row: 4096, fill: 0 }]);
+    for key in cases::chain_keys(record) {
+        let (row, fill) = (4096, 0);
+        calls.extend([Call::Undo { key }, Call::Waiting { key, row, fill }, Call::TakeBack { key, row, fill }]);
     }
     let nodes = reference::walk(record).unwrap_or_default();
     calls.push(Call::Node { n: nodes.len() as u16 });

@@ -63,6 +63,7 @@ fn parse_call(operation: &str, words: &[&str]) -> Call {
         ("least_free", []) => Call::LeastFree,
         ("undo_listing", &[row, fill]) => Call::UndoListing { row: row.into(), fill },
         ("waiting", &[key, row, fill]) => Call::Waiting { key, row: row.into(), fill },
+        ("take_back", &[key, row, fill]) => Call::TakeBack { key, row: row.into(), fill },
         ("blank", []) => Call::Blank,
         ("verdict", []) => Call::Verdict,
         _ => panic!("no such operation: {operation} {words:?}"),
@@ -78,7 +79,7 @@ fn parse_outcome(call: &Call, record: &[u8], fields: &HashMap<&str, &str>) -> Ou
             false => number("refusal") * 256 + number("label"),
         },
         _ => {
-            let single = number("nodes") + number("count") + number("key") + number("verdict");
+            let single: u64 = ["nodes", "count", "key", "verdict", "undone"].map(number).iter().sum();
             let q = (number("q") + single) as u16;
             pack(number("refusal") as u8, number("found") as u8, number("label") as u8, number("p") as u16, q)
         }
@@ -138,7 +139,7 @@ fn listing(side: Side, record: &[u8]) -> Option<String> {
         text += &format!("forward {p} {q} {}\n", step >> 32 & 255);
         step = side.run(&Call::First { p, q: q + 1 }, record)?.answer;
     }
-    for &key in &undos.row[..undos.answer as usize] {
+    for &key in undos.listed() {
         text += &format!("undo {key} {}\n", side.run(&Call::Undo { key }, record)?.answer);
     }
     Some(text)

@@ -5,10 +5,10 @@ use crate::tree::{Paths, Tree, NONE};
 use crate::{complement, Refusal, KEY_ABSENT, KEY_ZERO, ROW_SHORT, TAU};
 
 /// One bit for each 16-bit number.
-struct KeySet([u64; 1024]);
+pub struct KeySet([u64; 1024]);
 
 impl KeySet {
-    const EMPTY: KeySet = KeySet([0; 1024]);
+    pub const EMPTY: KeySet = KeySet([0; 1024]);
 
     /// The keys other than 0 that stand in the record, and how many they are.
     fn of(record: &[u8]) -> Result<(KeySet, u16), Refusal> {
@@ -23,12 +23,12 @@ impl KeySet {
         Ok((set, count))
     }
 
-    fn has(&self, key: u16) -> bool {
+    pub fn has(&self, key: u16) -> bool {
         self.0[key as usize / 64] >> (key % 64) & 1 == 1
     }
 
     /// Puts the key in; true if it was not in before.
-    fn add(&mut self, key: u16) -> bool {
+    pub fn add(&mut self, key: u16) -> bool {
         let new = !self.has(key);
         self.0[key as usize / 64] |= 1 << (key % 64);
         new
@@ -85,7 +85,7 @@ pub fn waiting(record: &[u8], key: u16, row: &mut [u16]) -> Result<usize, Refusa
 
 /// The links of a record: from each key to the keys right below its prefixes. Keys further down need no link from it:
 /// they are linked to those between.
-struct Links {
+pub struct Links {
     /// Each link: the lower key, and one more than the place of the upper key's link before this one. A key with none
     /// above it is linked to 0, which no chain meets.
     links: Vec<(u16, u16)>,
@@ -95,7 +95,7 @@ struct Links {
 
 impl Links {
     /// The links of the record, and whether this key stands in it.
-    fn of(record: &[u8], key: u16) -> Result<(Links, bool), Refusal> {
+    pub fn of(record: &[u8], key: u16) -> Result<(Links, bool), Refusal> {
         // above[d]: the nearest key at depth d or above it on the way to the present node; 0 if there is none.
         let mut above = [0u16; DEPTH_LIMIT + 1];
         let mut links: Vec<(u16, u16)> = Vec::new();
@@ -115,28 +115,31 @@ impl Links {
     }
 
     /// The key itself, then the others that chains lead to from it, in the order in which they are first met.
-    fn reached(&self, key: u16) -> Vec<u16> {
+    pub fn reached(&self, key: u16) -> Vec<u16> {
         let mut met = KeySet::EMPTY;
         met.add(key);
         let mut reached = vec![key];
         let mut done = 0;
         while let Some(&upper) = reached.get(done) {
             done += 1;
-            let mut link = self.last[upper as usize];
-            while link != 0 {
-                let (lower, before) = self.links[link as usize - 1];
-                if met.add(lower) {
-                    reached.push(lower);
-                }
-                link = before;
-            }
+            reached.extend(self.right_below(upper).filter(|&lower| met.add(lower)));
         }
         reached
+    }
+
+    /// The keys that this one has a link to, one for each link.
+    pub fn right_below(&self, upper: u16) -> impl Iterator<Item = u16> + '_ {
+        let mut link = self.last[upper as usize];
+        std::iter::from_fn(move || {
+            let (lower, before) = self.links[(link as usize).checked_sub(1)?];
+            link = before;
+            Some(lower)
+        })
     }
 }
 
 /// The list goes to the front of the row; the rest of the row stays.
-fn fill(row: &mut [u16], list: &[u16]) -> Result<usize, Refusal> {
+pub fn fill(row: &mut [u16], list: &[u16]) -> Result<usize, Refusal> {
     row.get_mut(..list.len()).ok_or(ROW_SHORT)?.copy_from_slice(list);
     Ok(list.len())
 }

@@ -9,6 +9,7 @@ mod listing;
 mod moves;
 mod record;
 mod search;
+mod take_back;
 mod tree;
 mod verdict;
 
@@ -18,9 +19,10 @@ pub use listing::listing;
 pub use moves::{forward, undo};
 pub use record::{node, read, walk, Shown, DEPTH_LIMIT, NODE_LIMIT};
 pub use search::{first, for_each_step};
+pub use take_back::take_back;
 pub use verdict::verdict;
 
-/// A refusal number, as in the table of document 01.
+/// A refusal number, as in the table of document 01 and in 02, [6].
 pub type Refusal = u8;
 
 /// Bytes are no record.
@@ -41,6 +43,8 @@ pub const KEY_ABSENT: Refusal = 7;
 pub const NO_UNDO: Refusal = 8;
 /// Lent row shorter than the list.
 pub const ROW_SHORT: Refusal = 9;
+/// The record is not sound.
+pub const NOT_SOUND: Refusal = 13;
 
 /// The label of a joined step and of a prefix without a channel.
 pub const TAU: u8 = 0;

@@ -57,7 +57,8 @@ fn label_of(tree: &Tree, places: &[u16]) -> Option<u8> {
     }
 }
 
-fn mark(record: &mut [u8], tree: &Tree, places: &[u16], key: u16) {
+/// Writes the key at these places.
+pub fn mark(record: &mut [u8], tree: &Tree, places: &[u16], key: u16) {
     for &place in places {
         let body = tree.node(place).offset as usize + 1;
         record[body + 1..body + 3].copy_from_slice(&key.to_be_bytes());

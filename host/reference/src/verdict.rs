@@ -6,33 +6,41 @@ use crate::tree::{Tree, NONE};
 use crate::{complement, Refusal};
 
 pub fn verdict(record: &[u8]) -> Result<u8, Refusal> {
-    let tree = Tree::read(record)?;
+    Tree::read(record).map(|tree| verdict_of(&tree))
+}
+
+/// The verdict on a record that has been read.
+pub fn verdict_of(tree: &Tree) -> u8 {
     let numbers = 0..tree.nodes.len() as u16;
     let kind = |number: u16| tree.node(number).kind;
     let not_done = |number: u16| kind(number) == PREFIX && tree.node(number).key == 0;
     if numbers.clone().any(|number| not_done(number) && tree.key_below(number)) {
-        return Ok(1);
+        return 1;
     }
     if numbers.clone().any(|number| kind(number) == CHOICE && tree.both_sides_hold(number)) {
-        return Ok(2);
+        return 2;
     }
-    let keys = standings(&tree);
+    let keys = standings(tree);
     if keys.iter().any(|key| key.times > 2) {
-        return Ok(3);
+        return 3;
     }
     let action = |number: u16| tree.node(number).action;
     let mut twice = keys.iter().filter(|key| key.times == 2);
     if twice.clone().any(|key| complement(action(key.first)) != Some(action(key.second))) {
-        return Ok(4);
+        return 4;
     }
     if twice.any(|key| kind(key.meet) != PARALLEL) {
-        return Ok(5);
+        return 5;
     }
     let hiding = tree.paths().hiding;
-    if keys.iter().any(|key| !hidden_together(&tree, &hiding, key)) {
-        return Ok(6);
+    if keys.iter().any(|key| !hidden_together(tree, &hiding, key)) {
+        return 6;
     }
-    Ok(if has_cycle(&tree, &keys) { 7 } else { 0 })
+    if has_cycle(tree, &keys) {
+        7
+    } else {
+        0
+    }
 }
 
 /// Every restriction above one of the key's places on that place's name has the other below it too.

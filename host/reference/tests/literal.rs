@@ -1,5 +1,10 @@
 //! Holds the fast operations against the rules of documents 01 and 02, written down once more word by word on the term.
 
+#[path = "literal/random.rs"]
+mod random;
+
+use random::Random;
+
 #[derive(Clone)]
 enum Term {
     Nil,
@@ -174,41 +179,36 @@ impl Term {
         keys.dedup();
         keys
     }
-}
 
-/// Numbers that look random (xorshift).
-struct Random(u64);
-
-impl Random {
-    fn below(&mut self, end: u64) -> u64 {
-        self.0 ^= self.0 << 13;
-        self.0 ^= self.0 >> 7;
-        self.0 ^= self.0 << 17;
-        (self.0 >> 11) % end
+    /// This term with the key at these places; `at` is the number of this node.
+    fn with_key(&self, at: u16, places: &[u16], key: u16) -> Term {
+        let below = |at: u16, part: &Term| Box::new(part.with_key(at, places, key));
+        match self {
+            Nil => Nil,
+            Prefix(action, old, rest) => {
+                Prefix(*action, if places.contains(&at) { key } else { *old }, below(at + 1, rest))
+            }
+            Choice(left, right) => Choice(below(at + 1, left), below(at + 1 + left.parts().len() as u16, right)),
+            Parallel(left, right) => Parallel(below(at + 1, left), below(at + 1 + left.parts().len() as u16, right)),
+            Restriction(name, rest) => Restriction(*name, below(at + 1, rest)),
+        }
     }
 
-    fn term(&mut self, size: u64, keys: u64) -> Term {
-        if size <= 1 {
-            return Nil;
+    /// Takes back m and its waiting list: each time the least of the keys still to go whose undo the rules allow.
+    /// The keys in that order, and the term that is left.
+    fn taken_back(&self, m: u16) -> (Vec<u16>, Term) {
+        let mut still = self.waits_for(m);
+        still.push(m);
+        still.sort();
+        let (mut order, mut term) = (Vec::new(), self.clone());
+        while !still.is_empty() {
+            let undo = |key: &u16| term.steps(0, *key, Way::Back).pop().map(|(_, places)| (*key, places));
+            let (key, places) = still.iter().find_map(undo).expect("in a sound term one of them can go");
+            term = term.with_key(0, &places, 0);
+            still.retain(|other| *other != key);
+            order.push(key);
         }
-        match self.below(9) {
-            0..=3 => {
-                let action = [0, 1, 129, 1, 129, 2, 130][self.below(7) as usize];
-                let key = if self.below(2) == 0 { 0 } else { self.below(keys + 1) as u16 };
-                Prefix(action, key, self.term(size - 1, keys).into())
-            }
-            4 => Restriction(1 + self.below(2) as u8, self.term(size - 1, keys).into()),
-            kind => {
-                let left = 1 + self.below(size);
-                let (left, right) =
-                    (self.term(left, keys).into(), self.term(size.saturating_sub(left + 1), keys).into());
-                if kind == 5 {
-                    Choice(left, right)
-                } else {
-                    Parallel(left, right)
-                }
-            }
-        }
+        (order, term)
     }
 }
 
@@ -252,6 +252,18 @@ fn agrees_with_the_rules_as_written() {
             }
         }
         assert_eq!(row_of(|row| reference::undo_listing(&bytes, row)), undoable, "{bytes:02x?}");
+        (0..8).for_each(|key| check_take_back(&term, lowest == 0, key));
+    }
+}
+
+#[test]
+fn takes_back_what_stands_on_a_key_in_the_order_of_its_undos() {
+    let mut random = Random(88172645463325252);
+    for _ in 0..3_000 {
+        let size = 2 + random.below(30);
+        let term = random.sound(size, 12);
+        assert_eq!(reference::verdict(&term.bytes()), Ok(0), "{:02x?}", term.bytes());
+        (0..=13).for_each(|key| check_take_back(&term, true, key));
     }
 }
 
@@ -269,6 +281,33 @@ fn the_waiting_list_follows_the_chain() {
     ] {
         assert_eq!(term.waits_for(key), list);
         assert_eq!(row_of(|row| reference::waiting(&term.bytes(), key, row)), list);
+    }
+}
+
+/// Refused for its causes in their order, or done by the rule. A row just long enough will do, a shorter one not.
+fn check_take_back(term: &Term, sound: bool, key: u16) {
+    let before = term.bytes();
+    let refused = |refusal: u8| (Err(refusal), vec![], before.clone());
+    let (answer, order, after) = match key {
+        0 => refused(3),
+        _ if !sound => refused(13),
+        _ if term.times(key) == 0 => refused(7),
+        _ => {
+            let (order, left) = term.taken_back(key);
+            (Ok(order.len()), order, left.bytes())
+        }
+    };
+    let taken_back = |length: usize| {
+        let (mut bytes, mut row) = (before.clone(), vec![7777; length]);
+        let answer = reference::take_back(&mut bytes, key, &mut row);
+        (answer, bytes, row)
+    };
+    for spare in [0, 3] {
+        let right = (answer, after.clone(), [order.as_slice(), &vec![7777; spare]].concat());
+        assert_eq!(taken_back(order.len() + spare), right, "take back {key}: {before:02x?}");
+    }
+    if let Some(short) = order.len().checked_sub(1) {
+        assert_eq!(taken_back(short), (Err(9), before.clone(), vec![7777; short]), "take back {key}: {before:02x?}");
     }
 }
 
