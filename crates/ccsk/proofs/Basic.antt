@@ -7,10 +7,19 @@ use native.Mathlib.Decide.{ℕ-discrete}
 use native.Mathlib.Omega.{arith}
 use borrow.Author.Tests.{eq-eqb, ne-eqb}
 use Rattle.ccsk.specs.Numbers.{either}
-use Rattle.ccsk.specs.Term.{Term, nil, pre, cho, par, res, Std, Has, Co, On, Channel, labels, blank}
+use Rattle.ccsk.specs.Term.{Term, nil, pre, cho, par, res, Std, Has, Co, On, Channel, labels, blank, size}
 
 pub never : {A : Type 0} {m : ℕ} → 0 < m → m ≡ 0 → A
 never h e = absurd (omega arith)
+
+-- a term has a node
+pub size-pos : (t : Term) → 0 < size t
+unfolding size
+size-pos nil = omega arith
+size-pos (pre a k t) = omega arith
+size-pos (cho t u) = omega arith
+size-pos (par t u) = omega arith
+size-pos (res a t) = omega arith
 
 pub co-sym : {a b : ℕ} → Co a b → Co b a
 co-sym (inl c) = inr c

@@ -70,9 +70,7 @@ fn due_at(bytes: &[u8], c: Cursor) -> Head
     if bytes.len() <= at {
         return Head::Refused(NO_RECORD);
     }
-    let bodies = reader::BODY;
-    let families = reader::CHILDREN;
-    reader::node_at(bytes, at, &bodies, &families)
+    reader::node_at(bytes, at)
 }
 
 // The node that the cursor stands at.

@@ -14,7 +14,6 @@ use Rattle.format.specs.Flat.{keysOf, after, headKind, headKey, Due, keyAt}
 use Rattle.format.specs.Encode.{Bytes}
 use Rattle.format.specs.Kinds.{bodyLength, childCount}
 use Rattle.format.proofs.Flat.{key-here, kind-here, due-after, children-due, all-due, keys-head, keys-one, keys-none}
-use Rattle.reader.specs.Head.{NodeAt}
 use Rattle.reader.specs.Due.{stacked, push, Remains, Passed}
 use Rattle.reader.proofs.Stack.{stacked-top}
 use Rattle.reader.proofs.Due.{at-start, no-more-bytes, children-most}
@@ -142,10 +141,6 @@ start s m x due l d E = record {
   long = length-replicate {A = ℕ} 257 0;
   filling = filling-none s m x E;
 }
-
--- a prefix's key ends within the record
-pub key-inside : {s : List ℕ} {at kind children next : ℕ} → NodeAt s at kind children next → getD s at 0 ≡ 1 → at + 3 < length s
-key-inside {kind = kind} N e = let z : bodyLength kind ≡ 3 = ap bodyLength (N .byte ∙ e) in omega (arith, N .ends, N .within, z)
 
 -- the next node is passed
 module _ (s : List ℕ) (m : Key) (x : Cabinet) (due ups : List ℕ) (many left at n : ℕ) (met : Bool) (P : Passing s m x due ups many left at n met) (g : 0 < many)

@@ -114,8 +114,6 @@ pub fn file_all(
     requires { ⌜ Empty (cabinet (now upper) (now lower) (now older) (now latest)) ⌝ }
     ensures { λ r. ⌜ FilesAll (now (bytes .entry)) key (cabinet (now (upper .exit)) (now (lower .exit)) (now (older .exit)) (now (latest .exit))) r ⌝ }
 {
-    let bodies = reader::BODY;
-    let families = reader::CHILDREN;
     let mut due = [DEPTH; DUE];
     let mut ups = [0u16; DUE];
     let mut many: usize = 1;
@@ -124,7 +122,7 @@ pub fn file_all(
     let mut links: usize = 0;
     let mut met = false;
     while 0 < many {
-        match pass_node(bytes, at, left, many, &mut due, &bodies, &families) {
+        match pass_node(bytes, at, left, many, &mut due) {
             Head::Refused(c) => {
                 return Found::Refused(c);
             }

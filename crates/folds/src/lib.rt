@@ -2,7 +2,6 @@
 use reader::CHOICE;
 use reader::DEPTH;
 use reader::Head;
-use reader::KINDS;
 use reader::NODES;
 use reader::PREFIX;
 use reader::node_due;
@@ -13,7 +12,6 @@ ghost use Prim.Native.Nat.{_+_, _<_};
 ghost use mathlib.Core.Path.{_≡_};
 ghost use mathlib.Core.Bool.{not, _&&_};
 ghost use lib.ListN.{length};
-ghost use Rattle.reader.specs.Head.{Tables};
 ghost use Rattle.folds.specs.Folded.{OfNil, OverOne, OverTwo, Folded, Looked};
 
 // Of a part of a record: whether a prefix holds a key, and whether the conditions 1 and 2 hold.
@@ -102,18 +100,10 @@ fn at_two(choice: bool, one: Marks, two: Marks) -> Marks
 }
 
 // The term at `at`: at most `deep` levels and `left` nodes may come.
-fn fold(
-    s: &[u8],
-    at: usize,
-    deep: usize,
-    left: usize,
-    bodies: &[usize; KINDS],
-    families: &[usize; KINDS],
-) -> Outcome
-    requires { ⌜ Tables (now bodies) (now families) ⌝ }
+fn fold(s: &[u8], at: usize, deep: usize, left: usize) -> Outcome
     ensures { λ r. ⌜ Folded (now (s .entry)) at deep left r ⌝ }
 {
-    match node_due(s, at, deep, left, bodies, families) {
+    match node_due(s, at, deep, left) {
         Head::Refused(c) => Outcome::Refused(c),
         Head::Node {
             kind,
@@ -123,13 +113,13 @@ fn fold(
             if children == 0 {
                 return Outcome::Part(next, left - 1, at_nil());
             }
-            match fold(s, next, deep - 1, left - 1, bodies, families) {
+            match fold(s, next, deep - 1, left - 1) {
                 Outcome::Refused(c) => Outcome::Refused(c),
                 Outcome::Part(second, rest, below) => {
                     if children == 1 {
                         return Outcome::Part(second, rest, at_one(s, at, kind, below));
                     }
-                    match fold(s, second, deep - 1, rest, bodies, families) {
+                    match fold(s, second, deep - 1, rest) {
                         Outcome::Refused(c) => Outcome::Refused(c),
                         Outcome::Part(end, last, other) => {
                             Outcome::Part(end, last, at_two(kind == CHOICE, below, other))
@@ -145,9 +135,7 @@ fn fold(
 pub fn fold_all(s: &[u8]) -> Whole
     ensures { λ r. ⌜ Looked (now (s .entry)) r ⌝ }
 {
-    let bodies = reader::BODY;
-    let families = reader::CHILDREN;
-    match fold(s, 0, DEPTH, NODES, &bodies, &families) {
+    match fold(s, 0, DEPTH, NODES) {
         Outcome::Refused(c) => Whole::Refused(c),
         Outcome::Part(next, _, marks) => {
             if next < s.len() {

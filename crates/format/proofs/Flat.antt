@@ -11,16 +11,17 @@ use Rattle.ccsk.specs.Term.{Term, Key, nil, pre, cho, par, res, keys, done}
 use Rattle.format.specs.Read.{keyOf}
 use Rattle.format.specs.Encode.{encode, high, low}
 use Rattle.format.specs.Kinds.{bodyLength, childCount}
-use Rattle.format.specs.Flat.{encodes, keysOf, after, headKind, headKey, Due, keyAt}
+use Rattle.format.specs.Flat.{encodes, keysOf, after, headKind, headKey, headArg, Due, keyAt}
 use Rattle.format.proofs.Round.{key-bytes}
 
--- The first node of the terms that are due at a place: its kind, its end, what is due then, and its key.
+-- The first node of the terms that are due at a place: its kind, its end, what is due then, its key, and its action or name.
 record FirstNode (s : List ℕ) (at : ℕ) (ts : List Term) : Type 0 where
   known : getD s at 0 < 5
   within : at + 1 + bodyLength (getD s at 0) ≤ length s
   rest : Due s (at + 1 + bodyLength (getD s at 0)) (after ts)
   kind : getD s at 0 ≡ headKind ts
   key : keyAt s at ≡ headKey ts
+  arg : 0 < bodyLength (getD s at 0) → getD s (at + 1) 0 ≡ headArg ts
 
 -- a byte of what is due
 byte-at : (s : List ℕ) (at i : ℕ) (l : List ℕ) → drop at s ≡ l → getD s (at + i) 0 ≡ getD l i 0
@@ -32,13 +33,14 @@ past s at n l e = sym (drop-drop n at s) ∙ ap (drop n) e
 -- a node of kind b whose body is x, with l after it
 module _ (s : List ℕ) (at : ℕ) (ts : List Term) (h : at < length s) where
   node-of : (b : ℕ) (x l : List ℕ) → b < 5 → bodyLength b ≡ length x → drop at s ≡ b ∷ (x ++ l) → l ≡ encodes (after ts) → b ≡ headKind ts
-      → cond (eqb b 1) (keyOf (getD (x ++ l) 1 0) (getD (x ++ l) 2 0)) 0 ≡ headKey ts → FirstNode s at ts
-  node-of b x l five q e r m k = record {
+      → cond (eqb b 1) (keyOf (getD (x ++ l) 1 0) (getD (x ++ l) 2 0)) 0 ≡ headKey ts → (0 < length x → getD (x ++ l) 0 0 ≡ headArg ts) → FirstNode s at ts
+  node-of b x l five q e r m k a = record {
     known = rw kind five;
     within = rw (kind, q) (omega (arith, length-drop at s, ap length e, length-append x l));
     rest = rw (kind, q) (rest ∙ r);
     kind = kind ∙ m;
     key = rw (kind, byte-at s at 2 (b ∷ (x ++ l)) e, byte-at s at 3 (b ∷ (x ++ l)) e) k;
+    arg = rw (kind, q, byte-at s at 1 (b ∷ (x ++ l)) e) a;
   }
     where
       kind : getD s at 0 ≡ b
@@ -49,16 +51,16 @@ module _ (s : List ℕ) (at : ℕ) (ts : List Term) (h : at < length s) where
 
 -- Every place that is not the end has a first node.
 first-node : (s : List ℕ) (at : ℕ) (ts : List Term) → at < length s → Due s at ts → FirstNode s at ts
-unfolding encodes after encode headKind headKey
+unfolding encodes after encode headKind headKey headArg
 first-node s at [] h e = absurd (omega (arith, length-drop at s, ap length e))
-first-node s at (nil ∷ ts) h e = node-of s at (nil ∷ ts) h 0 [] (encodes ts) (omega arith) refl e refl refl refl
+first-node s at (nil ∷ ts) h e = node-of s at (nil ∷ ts) h 0 [] (encodes ts) (omega arith) refl e refl refl refl (λ z. absurd (omega arith))
 first-node s at (pre a k t ∷ ts) h e =
-    node-of s at (pre a k t ∷ ts) h 1 (a ∷ (high k ∷ (low k ∷ []))) (encode t ++ encodes ts) (omega arith) refl e refl refl (key-bytes k)
+    node-of s at (pre a k t ∷ ts) h 1 (a ∷ (high k ∷ (low k ∷ []))) (encode t ++ encodes ts) (omega arith) refl e refl refl (key-bytes k) (λ z. refl)
 first-node s at (cho t u ∷ ts) h e =
-    node-of s at (cho t u ∷ ts) h 2 [] (encode t ++ (encode u ++ encodes ts)) (omega arith) refl (e ∙ rw append-assoc) refl refl refl
+    node-of s at (cho t u ∷ ts) h 2 [] (encode t ++ (encode u ++ encodes ts)) (omega arith) refl (e ∙ rw append-assoc) refl refl refl (λ z. absurd (omega arith))
 first-node s at (par t u ∷ ts) h e =
-    node-of s at (par t u ∷ ts) h 3 [] (encode t ++ (encode u ++ encodes ts)) (omega arith) refl (e ∙ rw append-assoc) refl refl refl
-first-node s at (res a t ∷ ts) h e = node-of s at (res a t ∷ ts) h 4 (a ∷ []) (encode t ++ encodes ts) (omega arith) refl e refl refl refl
+    node-of s at (par t u ∷ ts) h 3 [] (encode t ++ (encode u ++ encodes ts)) (omega arith) refl (e ∙ rw append-assoc) refl refl refl (λ z. absurd (omega arith))
+first-node s at (res a t ∷ ts) h e = node-of s at (res a t ∷ ts) h 4 (a ∷ []) (encode t ++ encodes ts) (omega arith) refl e refl refl refl (λ z. refl)
 
 done-append : (k : Key) (l m : List Key) → done k l ++ m ≡ done k [] ++ (l ++ m)
 done-append zero l m = refl
@@ -84,6 +86,12 @@ children-due (cho t u ∷ ts) h = omega arith
 children-due (par t u ∷ ts) h = omega arith
 children-due (res a t ∷ ts) h = omega arith
 
+-- Before the end something is due.
+pub some-due : (s : List ℕ) (at : ℕ) (ts : List Term) → at < length s → Due s at ts → 0 < length ts
+unfolding encodes
+some-due s at [] h e = absurd (omega (arith, length-drop at s, ap length e))
+some-due s at (t ∷ ts) h e = omega arith
+
 -- At the end nothing is due.
 pub none-due : (s : List ℕ) (at : ℕ) (ts : List Term) → length s ≤ at → Due s at ts → ts ≡ []
 unfolding encodes encode
@@ -108,13 +116,20 @@ unfolding keysOf
 keys-none = refl
 
 -- What a loop needs at a place that is not the end: the node's kind b is in the tables, its body and a prefix's key end within the record,
--- its key is the first node's, and what is due after it.
+-- its key, its action or name are the first node's, and what is due after it.
 module _ (s : List ℕ) (at : ℕ) (ts : List Term) (d : Due s at ts) (h : at < length s) where
   pub key-here : keyAt s at ≡ headKey ts
   key-here = first-node s at ts h d .key
 
   pub kind-here : getD s at 0 ≡ headKind ts
   kind-here = first-node s at ts h d .kind
+
+  -- a node with a body has its action or name there
+  pub arg-within : 0 < bodyLength (headKind ts) → at + 1 < length s
+  arg-within z = omega (arith, z, first-node s at ts h d .within, ap bodyLength kind-here)
+
+  pub arg-here : 0 < bodyLength (headKind ts) → getD s (at + 1) 0 ≡ headArg ts
+  arg-here z = first-node s at ts h d .arg (rw kind-here z)
 
   pub key-within : getD s at 0 ≡ 1 → at + 3 < length s
   key-within e = omega (arith, rw e at (first-node s at ts h d .within))

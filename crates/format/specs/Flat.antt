@@ -45,6 +45,15 @@ headKey (cho t u ∷ ts) = 0
 headKey (par t u ∷ ts) = 0
 headKey (res a t ∷ ts) = 0
 
+-- the action or the name of the first node; 0 if it has neither
+unfoldable pub headArg : List Term → ℕ
+headArg [] = 0
+headArg (nil ∷ ts) = 0
+headArg (pre a k t ∷ ts) = a
+headArg (cho t u ∷ ts) = 0
+headArg (par t u ∷ ts) = 0
+headArg (res a t ∷ ts) = a
+
 -- From the place `at` on, the bytes s are the record of the terms ts.
 abbrev pub Due : List ℕ → ℕ → List Term → Type 0
 Due s at ts = drop at s ≡ encodes ts

@@ -10,6 +10,7 @@ use Rattle.ccsk.specs.Numbers.{In, distinct}
 use Rattle.ccsk.specs.Term.{Term, Key, keys, done, blank}
 use Rattle.format.specs.Read.{Reads, Refuses}
 use Rattle.format.specs.Encode.{encode, Fits}
+use Rattle.format.specs.Kinds.{bodyLength}
 use Rattle.keyset.specs.Set.{member}
 use Rattle.shared.specs.declared.Number.{Number}
 use Rattle.shared.specs.declared.Number.the-variants.{Refused, Is}
@@ -44,6 +45,14 @@ pub record Scanned (s m : List ℕ) (n : ℕ) : Type 0 where
 abbrev pub Gathered : List ℕ → List ℕ → Number → Type 0
 Gathered s m (Refused c) = Refuses s c
 Gathered s m (Is n) = Scanned s m n
+
+-- where the node at a place ends, by the byte of kind there
+abbrev pub endAt : List ℕ → ℕ → ℕ
+endAt s at = at + (1 + bodyLength (getD s at 0))
+
+-- the byte of kind at a place is a known one, and the bytes of that node are there
+abbrev pub Within : List ℕ → ℕ → Type 0
+Within s at = (getD s at 0 ≤ 4) × (endAt s at ≤ length s)
 
 -- the bytes with key 0 at the node at a place, if it is a prefix
 abbrev pub clearedAt : List ℕ → ℕ → List ℕ

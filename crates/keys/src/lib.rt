@@ -10,11 +10,14 @@ ghost use Rattle.operations.specs.Change.{BlankForm};
 ghost use Rattle.shared.specs.Number.{refusal, value};
 ghost use Rattle.keyset.specs.Set.{member};
 ghost use Rattle.keys.specs.Erase.{erasedAt, Erased};
-ghost use Rattle.keys.specs.Gather.{Readable, Holds, Marked, Scanned, Gathered, clearedAt, Cleared};
+ghost use Rattle.keys.specs.Gather.{Within, endAt, Readable, Holds, Marked, Scanned, Gathered, clearedAt, Cleared};
 use keyset::BYTES;
+use reader::body_length;
+use reader::other_length;
 use shared::NOT_DONE;
 use shared::Number;
 use shared::key_of;
+use shared::wide_byte;
 
 // The kind of a prefix, as a byte.
 const PREFIX: u8 = reader::PREFIX as u8;
@@ -55,20 +58,42 @@ pub fn mark_all(column: &[u16], marks: &mut [u8; BYTES]) -> usize
     n
 }
 
-// Marks the keys of a readable record in an empty set: how many different ones there are. The table of the kinds is laid out once, before
-// the walk.
+// How many keys more the set has after a node, and where the next node begins.
+struct Step {
+    more: usize,
+    next: usize,
+}
+
+// Marks the key of the node at `at`, if it is a prefix. The caller has seen that the node's bytes are there.
+fn mark_at(bytes: &[u8], at: usize, marks: &mut [u8; BYTES]) -> Step
+    requires { ⌜ Within (now bytes) at × (length (now marks) ≡ 8192) ⌝ }
+    ensures { λ r. ⌜ Marked (now (marks .entry)) (keyAt (now (bytes .entry)) at) (now (marks .exit)) (r .more) × (r .next ≡ endAt (now (bytes .entry)) at) ⌝ }
+{
+    let kind = wide_byte(bytes[at]);
+    if kind == reader::PREFIX {
+        return Step {
+            more: mark(marks, key_at(bytes, at)),
+            next: at + (1 + body_length(reader::PREFIX)),
+        };
+    }
+    Step {
+        more: 0,
+        next: at + (1 + other_length(kind)),
+    }
+}
+
+// Marks the keys of a readable record in an empty set: how many different ones there are.
 fn scan(bytes: &[u8], marks: &mut [u8; BYTES]) -> usize
     requires { ⌜ Readable (now bytes) ⌝ }
     requires { ⌜ Holds (now marks) [] ⌝ }
     ensures { λ r. ⌜ Scanned (now (bytes .entry)) (now (marks .exit)) r ⌝ }
 {
-    let body = reader::BODY;
     let mut at: usize = 0;
     let mut n: usize = 0;
     while at < bytes.len() {
-        let kind = shared::wide_byte(bytes[at]);
-        n += mark(marks, key_at(bytes, at));
-        at += 1 + body[kind];
+        let step = mark_at(bytes, at, marks);
+        n += step.more;
+        at = step.next;
     }
     n
 }
@@ -128,18 +153,28 @@ fn erase_at(bytes: &mut [u8], at: usize, marks: &[u8; BYTES])
     }
 }
 
+// The same, and answers where the next node begins.
+fn erase_past(bytes: &mut [u8], at: usize, marks: &[u8; BYTES]) -> usize
+    requires { ⌜ Within (now bytes) at × (length (now marks) ≡ 8192) ⌝ }
+    ensures { λ r. ⌜ (now (bytes .exit) ≡ erasedAt (member (now (marks .entry)) (keyAt (now (bytes .entry)) at)) (now (bytes .entry)) at) × (r ≡ endAt (now (bytes .entry)) at) ⌝ }
+{
+    let kind = wide_byte(bytes[at]);
+    if kind == reader::PREFIX {
+        erase_at(bytes, at, marks);
+        return at + (1 + body_length(reader::PREFIX));
+    }
+    at + (1 + other_length(kind))
+}
+
 // Makes each key of a readable record that is in the set 0, in one pass. A helper between crates: the set's array is whole.
 pub fn erase(bytes: &mut [u8], marks: &[u8; BYTES])
     requires { ⌜ Readable (now bytes) ⌝ }
     requires { ⌜ length (now marks) ≡ 8192 ⌝ }
     ensures { λ _. ⌜ Erased (member (now (marks .entry))) (now (bytes .entry)) (now (bytes .exit)) ⌝ }
 {
-    let body = reader::BODY;
     let mut at: usize = 0;
     while at < bytes.len() {
-        let kind = shared::wide_byte(bytes[at]);
-        erase_at(bytes, at, marks);
-        at += 1 + body[kind];
+        at = erase_past(bytes, at, marks);
     }
 }
 
@@ -149,14 +184,13 @@ fn wipe(bytes: &mut [u8], marks: &mut [u8; BYTES]) -> usize
     requires { ⌜ Holds (now marks) [] ⌝ }
     ensures { λ r. ⌜ Scanned (now (bytes .entry)) (now (marks .exit)) r × Cleared (now (bytes .entry)) (now (bytes .exit)) ⌝ }
 {
-    let body = reader::BODY;
     let mut at: usize = 0;
     let mut n: usize = 0;
     while at < bytes.len() {
-        let kind = shared::wide_byte(bytes[at]);
-        n += mark(marks, key_at(bytes, at));
+        let step = mark_at(bytes, at, marks);
         clear_at(bytes, at);
-        at += 1 + body[kind];
+        n += step.more;
+        at = step.next;
     }
     n
 }

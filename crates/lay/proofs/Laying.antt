@@ -1,5 +1,5 @@
 -- How a term is laid out, from how its children are: a law for each way out of the pass.
-use mathlib.Core.Path.{_≡_, refl, sym, ap, subst, _∙_}
+use mathlib.Core.Path.{_≡_, refl, sym, subst, _∙_}
 use mathlib.Core.Logic.{_≢_}
 use mathlib.Core.List.{List, [], _∷_, _++_}
 use Prim.Native.Nat.{ℕ, zero, suc, _+_, _≤_, _<_, _%_}
@@ -10,7 +10,7 @@ use lib.Seq.{set-set, set-getD}
 use Rattle.ccsk.specs.Term.{Term, Key, nil, pre, cho, par, res, size}
 use Rattle.format.specs.Limits.{node-limit}
 use Rattle.format.specs.Encode.{encode, InRange}
-use Rattle.format.specs.Kinds.{bodyLength, childCount}
+use Rattle.format.specs.Kinds.{bodyLength}
 use Rattle.format.specs.Flat.{headKind, headKey, keyAt}
 use Rattle.causes.specs.Entry.{Entry, Scopes, under, marked, entries}
 use Rattle.lay.specs.declared.Place.{Place}
@@ -89,13 +89,13 @@ module _ (s : List ℕ) (at node row kind : ℕ) (hk : kind ≡ getD s at 0) (b 
   body : (m : ℕ) → kind ≡ m → b ≡ bodyLength m
   body = body-of s at node row kind hk b hb
 
-  pub lays-nil : childCount kind ≡ 0 → Sized x → Lays s at node row up x (record { at = at + (1 + b); node = node + 1; row = row }) x
+  pub lays-nil : kind ≡ 0 → Sized x → Lays s at node row up x (record { at = at + (1 + b); node = node + 1; row = row }) x
   unfolding headKind encode size marked entries
   lays-nil z w nil ts sc h g = record { after = omega (arith, body 0 (kind-of nil ts h)); node = refl; row = omega arith; rows = rows-none row x; sized = w }
-  lays-nil z w (pre a k t) ts sc h g = absurd (omega (arith, sym (ap childCount (kind-of (pre a k t) ts h)) ∙ z))
-  lays-nil z w (cho t u) ts sc h g = absurd (omega (arith, sym (ap childCount (kind-of (cho t u) ts h)) ∙ z))
-  lays-nil z w (par t u) ts sc h g = absurd (omega (arith, sym (ap childCount (kind-of (par t u) ts h)) ∙ z))
-  lays-nil z w (res a t) ts sc h g = absurd (omega (arith, sym (ap childCount (kind-of (res a t) ts h)) ∙ z))
+  lays-nil z w (pre a k t) ts sc h g = absurd (omega (arith, kind-of (pre a k t) ts h))
+  lays-nil z w (cho t u) ts sc h g = absurd (omega (arith, kind-of (cho t u) ts h))
+  lays-nil z w (par t u) ts sc h g = absurd (omega (arith, kind-of (par t u) ts h))
+  lays-nil z w (res a t) ts sc h g = absurd (omega (arith, kind-of (res a t) ts h))
 
   -- the entries of a child, whose node number is one more
   at-child : (i : ℕ) (u : Key) (j : ℕ) (y z : Sheet) (sc : Scopes) (t : Term) → Rows i j y z (entries (node + 1) i u sc t) → Rows i j y z (entries (suc node) i u sc t)
@@ -162,9 +162,9 @@ module _ (s : List ℕ) (at node row kind : ℕ) (hk : kind ≡ getD s at 0) (b 
     here-second t u ts l h w i f m = record { due = rw (w .after) (due-past s (at + (1 + b)) t (u ∷ ts) (h .due)); range = i; few = rw (w .node) f; room = rw (w .row) m }
 
     -- the pass may go on with the second side, which stands further on
-    pub ready-second : kind ≢ 1 → kind ≢ 4 → childCount kind ≢ 0 → Ready s at node row → Ready s (r .at) (r .node) (r .row) × (at < r .at)
+    pub ready-second : kind ≢ 1 → kind ≢ 4 → kind ≢ 0 → Ready s at node row → Ready s (r .at) (r .node) (r .row) × (at < r .at)
     unfolding headKind size marked
-    ready-second p q z (nil, ts, h) = absurd (z (ap childCount (kind-of nil ts h)))
+    ready-second p q z (nil, ts, h) = absurd (z (kind-of nil ts h))
     ready-second p q z (pre a k t, ts, h) = absurd (p (kind-of (pre a k t) ts h))
     ready-second p q z (cho t u, ts, h) = let i = here-choice s at node row kind hk b hb t u ts h in let w = L t (u ∷ ts) (told (x .nearest)) i (tells-told (x .nearest)) in
         ((u, ts, here-second t u ts _ i w (h .range .1) (omega (arith, h .few)) (omega (arith, h .room))), omega (arith, w .after))
@@ -172,7 +172,7 @@ module _ (s : List ℕ) (at node row kind : ℕ) (hk : kind ≡ getD s at 0) (b 
         ((u, ts, here-second t u ts _ i w (h .range .1) (omega (arith, h .few)) (omega (arith, h .room))), omega (arith, w .after))
     ready-second p q z (res a t, ts, h) = absurd (q (kind-of (res a t) ts h))
 
-    module _ (p : kind ≢ 1) (q : kind ≢ 4) (z : childCount kind ≢ 0) (r₂ : Place) (x′ : Sheet) (M : Lays s (r .at) (r .node) (r .row) up y r₂ x′) where
+    module _ (p : kind ≢ 1) (q : kind ≢ 4) (z : kind ≢ 0) (r₂ : Place) (x′ : Sheet) (M : Lays s (r .at) (r .node) (r .row) up y r₂ x′) where
       -- the rows of both sides
       both : (t u : Term) (ts : List Term) (sc : Scopes) → Tells (x .nearest) sc → InRange u → node + 1 + size t + size u < 65536 → row + marked t + marked u ≤ node-limit
           → Here s (at + (1 + b)) (node + 1) row t (u ∷ ts)
@@ -192,7 +192,7 @@ module _ (s : List ℕ) (at node row kind : ℕ) (hk : kind ≡ getD s at 0) (b 
 
       pub lays-two : Lays s at node row up x r₂ x′
       unfolding headKind encode size marked entries
-      lays-two nil ts sc h g = absurd (z (ap childCount (kind-of nil ts h)))
+      lays-two nil ts sc h g = absurd (z (kind-of nil ts h))
       lays-two (pre a k t) ts sc h g = absurd (p (kind-of (pre a k t) ts h))
       lays-two (cho t u) ts sc h g = let w = both t u ts sc g (h .range .1) (omega (arith, h .few)) (omega (arith, h .room)) (here-choice s at node row kind hk b hb t u ts h) in
           record { after = omega (arith, w .0, body 2 (kind-of (cho t u) ts h), length-append (encode t) (encode u)); node = omega (arith, w .1); row = omega (arith, w .2); rows = w .3; sized = w .4 }

@@ -1,11 +1,11 @@
 // Lays a record out in columns, a row for each prefix that holds a key, in preorder.
 // Helpers between crates, with what each asks of its caller.
 use keys::key_at;
+use reader::NIL;
 use reader::NODES;
 use reader::PREFIX;
 use reader::RESTRICTION;
 use reader::body_length;
-use reader::child_count;
 use shared::NAMES;
 use shared::Name;
 use shared::slot;
@@ -47,7 +47,8 @@ fn note(
     ups[row] = up;
 }
 
-// Lays out the term that stands here, below the key `up`, 0 for none, and answers the place of what follows it.
+// Lays out the term that stands here, below the key `up`, 0 for none, and answers the place of what follows it. The child begins where a
+// body of no bytes ends, unless the node is of a kind that has one.
 fn lay(
     s: &[u8],
     here: Place,
@@ -68,11 +69,12 @@ fn lay(
     let below = here.node + 1;
     let kind = wide_byte(s[at]);
     let mut child = Place {
-        at: at + (1 + body_length(kind)),
+        at: at + (1 + body_length(NIL)),
         node: below,
         row: row,
     };
     if kind == PREFIX {
+        child.at = at + (1 + body_length(PREFIX));
         let key = key_at(s, at);
         if key == 0 {
             return lay(s, child, up, keys, actions, ends, scopes, ups, nearest);
@@ -84,6 +86,7 @@ fn lay(
         return end;
     }
     if kind == RESTRICTION {
+        child.at = at + (1 + body_length(RESTRICTION));
         let a = s[at + 1];
         let place = slot(Name(a));
         let outer = nearest[place];
@@ -92,7 +95,7 @@ fn lay(
         nearest[place] = outer;
         return end;
     }
-    if child_count(kind) == 0 {
+    if kind == NIL {
         return child;
     }
     let other = lay(s, child, up, keys, actions, ends, scopes, ups, nearest);

@@ -6,6 +6,7 @@ use native.Mathlib.Omega.{arith}
 use lib.ListN.{length, drop, getD, set, length-set, drop-of-length-le}
 use lib.Seq.{drop-cons}
 use Rattle.ccsk.specs.Term.{Term, pre, cho, par, res, size}
+use Rattle.format.specs.Kinds.{bodyLength}
 use Rattle.format.specs.Limits.{node-limit, depth-limit}
 use Rattle.format.specs.Read.{Reading, Reading.refused, term, kindOf, keyOf, onward, read, finish, decode, Refuses}
 use Rattle.format.specs.Encode.{Bytes}
@@ -13,7 +14,7 @@ use Rattle.format.proofs.Unique.{read-written}
 use Rattle.operations.specs.Ask.{ReadRecord, done}
 use Rattle.reader.specs.declared.Head.{Head}
 use Rattle.reader.specs.declared.Head.the-variants.{Refused, Node}
-use Rattle.reader.specs.Head.{childCount, under}
+use Rattle.reader.specs.Head.{childCount, NodeAt, under}
 use Rattle.reader.specs.Walk.{Stops, NodeDue}
 use Rattle.reader.specs.Due.{stacked, push, Rest, stop, rest, after, readAll, Fits, Remains, Passed, Passes}
 use Rattle.reader.proofs.Heads.{by-kind}
@@ -135,3 +136,7 @@ module _ (s : List ℕ) (at left many : ℕ) (h : Head) (levels : List ℕ) (P :
 
   pub pass-good : (kind children next : ℕ) → h ≡ Node kind children next → Passed s at left many kind children next levels
   pass-good kind children next e = subst (λ (x : Head). Passes s at left many x levels) e P
+
+-- a prefix's key ends within the record
+pub key-inside : {s : List ℕ} {at kind children next : ℕ} → NodeAt s at kind children next → getD s at 0 ≡ 1 → at + 3 < length s
+key-inside {kind = kind} N e = let z : bodyLength kind ≡ 3 = ap bodyLength (N .byte ∙ e) in omega (arith, N .ends, N .within, z)

@@ -6,7 +6,8 @@ use Prim.Native.Nat.{ℕ, suc, _<_, _≤_}
 use native.Mathlib.Omega.{arith}
 use lib.ListN.{length, getD, drop-of-length-le}
 use lib.Seq.{drop-cons}
-use Rattle.ccsk.specs.Term.{Term, nil, pre, cho, par, res, size}
+use Rattle.ccsk.specs.Term.{Term, size}
+use Rattle.ccsk.proofs.Basic.{size-pos}
 use Rattle.format.specs.Limits.{node-limit, depth-limit}
 use Rattle.format.specs.Read.{finish, decode, Reads, Refuses}
 use Rattle.format.specs.Encode.{Bytes}
@@ -33,14 +34,6 @@ module _ (s : List ℕ) where
 pub record-cases : (s : List ℕ) (c n : ℕ) → ReadRecord s c n → (Refuses s c × (n ≡ 0)) ⊎ ((t : Term) × Reads s t × (c ≡ 0) × (n ≡ size t))
 record-cases s c n (unreadable e) = inl (e, refl)
 record-cases s c n (done {t} e) = inr (t, e, refl, refl)
-
-size-pos : (t : Term) → 0 < size t
-unfolding size
-size-pos nil = omega arith
-size-pos (pre a k t) = omega arith
-size-pos (cho t u) = omega arith
-size-pos (par t u) = omega arith
-size-pos (res a t) = omega arith
 
 pub record-refused : (s : List ℕ) (c : ℕ) → ReadRecord s c 0 → Refuses s c
 record-refused s c r = ⊎-elim (λ u. u .0) (λ u. absurd (omega (arith, u .3, size-pos (u .0)))) (record-cases s c 0 r)

@@ -1,11 +1,11 @@
 -- One node without its children, as `node_at` finds it, against the reading of a record.
 use mathlib.Core.Path.{_≡_}
 use mathlib.Core.List.{List}
-use Prim.Native.Nat.{ℕ, _≤_, _+_}
+use Prim.Native.Nat.{ℕ, _<_, _≤_, _+_}
 use lib.ListN.{length, drop, getD}
 use Rattle.ccsk.specs.Term.{nil, pre, cho, par, res}
 pub use Rattle.format.specs.Kinds.{childCount}
-use Rattle.format.specs.Kinds.{bodies, families, bodyLength}
+use Rattle.format.specs.Kinds.{bodyLength}
 use Rattle.format.specs.Read.{Reading, refused, term, Kind, nil-kind, prefix-kind, choice-kind, parallel-kind, restriction-kind, no-kind, kindOf, keyOf, node, oneChild, twoChildren}
 use Rattle.reader.specs.declared.Head.{Head}
 use Rattle.reader.specs.declared.Head.the-variants.{Refused, Node}
@@ -13,10 +13,6 @@ use Rattle.reader.specs.declared.Head.the-variants.{Refused, Node}
 -- how many bytes a body has, by kind
 abbrev pub body : ℕ → ℕ
 body = bodyLength
-
--- the two lists are the tables by kind
-abbrev pub Tables : List ℕ → List ℕ → Type 0
-Tables b f = (b ≡ bodies) × (f ≡ families)
 
 -- A good node with its byte of kind at the place `at` of s: what is made of its children. r reads a child, s′ are the bytes after the body.
 unfoldable pub under : Kind → List ℕ → ℕ → (ℕ → List ℕ → Reading) → ℕ → List ℕ → Reading
@@ -39,6 +35,10 @@ pub record NodeAt (s : List ℕ) (at kind children next : ℕ) : Type 0 where
 -- No good node stands at the place `at` of s: reading it is refused with 1, whatever its children.
 abbrev pub NoNodeAt : List ℕ → ℕ → Type 0
 NoNodeAt s at = (r : ℕ → List ℕ → Reading) (k : ℕ) → node (kindOf (getD s at 0)) r k (drop (at + 1) s) ≡ refused 1
+
+-- a byte stands at the place `at` of s, and says that the node there is of this kind
+abbrev pub KindAt : ℕ → List ℕ → ℕ → Type 0
+KindAt kind s at = (at < length s) × (kind ≡ getD s at 0)
 
 -- what `node_at` answers
 abbrev pub Headed : List ℕ → ℕ → Head → Type 0

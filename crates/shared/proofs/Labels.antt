@@ -1,4 +1,4 @@
--- Complementary labels, by the ranges of the first one: the complement adds or subtracts 128, and tau has none.
+-- Tests on labels. Complements, by the ranges of the first label: the complement adds or subtracts 128, and tau has none. Labels on a name.
 use mathlib.Core.Path.{_≡_, refl}
 use mathlib.Core.Logic.{inl, inr, _≢_, _↔_}
 use mathlib.Core.Bool.{Bool, true, false, false≢true}
@@ -7,7 +7,7 @@ use native.Mathlib.Decide.{ℕ-discrete}
 use native.Mathlib.Omega.{arith}
 use borrow.Author.Tests.{eq-eqb, ne-eqb}
 use lib.Dec.{eqb}
-use Rattle.ccsk.specs.Term.{Co}
+use Rattle.ccsk.specs.Term.{Co, On}
 use Rattle.shared.specs.Tells.{Tells}
 
 pub co-none : (l k : ℕ) → l ≡ 0 → ¬ Co l k
@@ -39,6 +39,21 @@ co-coname l k f h b = pick (ℕ-discrete k (l - 128))
         out : ¬ Co l k
         out (inl c) = omega arith
         out (inr c) = g (omega arith)
+
+-- labels on a name: itself and its co-name
+pub on-name : (a l : ℕ) → a ≢ 0 → a ≤ 127 → l ≡ a → On a l
+on-name a l f h e = ((omega arith, h), inl e)
+
+pub on-coname : (a l : ℕ) → a ≢ 0 → a ≤ 127 → l ≢ a → Tells (eqb l (a + 128)) (On a l)
+on-coname a l f h g = pick (ℕ-discrete l (a + 128))
+  where
+    pick : Dec (l ≡ a + 128) → Tells (eqb l (a + 128)) (On a l)
+    pick (yes e) = rw (eq-eqb l (a + 128) e) ((omega arith, h), inr e)
+    pick (no n) = rw (ne-eqb l (a + 128) n) out
+      where
+        out : ¬ On a l
+        out (c, inl e) = g e
+        out (c, inr e) = n e
 
 -- a test that tells whether a statement holds is true exactly if it does
 pub tells-iff : {A : Type 0} (b : Bool) → Tells b A → (b ≡ true) ↔ A

@@ -3,7 +3,7 @@
 ghost use mathlib.Core.Path.{_≡_};
 ghost use mathlib.Core.Bool.{_&&_, _||_};
 ghost use Prim.Native.Nat.{_<_, _%_};
-ghost use Rattle.ccsk.specs.Term.{Co};
+ghost use Rattle.ccsk.specs.Term.{Co, On};
 ghost use Rattle.format.specs.Read.{keyOf};
 ghost use Rattle.shared.specs.Tells.{Tells};
 
@@ -142,4 +142,21 @@ pub fn complementary(l: u8, k: u8) -> bool
         return false;
     }
     k == l - CO
+}
+
+// Whether the label is this name or its co-name. What is no name has no label on it.
+pub fn is_on(name: Name, label: u8) -> bool
+    ensures { λ r. ⌜ Tells r (On (name .0) label) ⌝ }
+{
+    let a = name.0;
+    if a == 0 {
+        return false;
+    }
+    if LAST_NAME < a {
+        return false;
+    }
+    if label == a {
+        return true;
+    }
+    label == a + CO
 }

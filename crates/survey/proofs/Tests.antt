@@ -1,13 +1,11 @@
 -- What the program's tests on nodes and labels tell.
 use mathlib.Core.Path.{_≡_, refl}
-use mathlib.Core.Logic.{inl, inr, _≢_}
+use mathlib.Core.Logic.{_≢_}
 use mathlib.Core.Bool.{Bool, true, false}
-use Prim.Native.Nat.{ℕ, zero, suc, _+_, _≤_}
-use native.Mathlib.Decide.{ℕ-discrete}
+use Prim.Native.Nat.{ℕ, zero, suc}
 use native.Mathlib.Omega.{arith}
 use borrow.Author.Tests.{eq-eqb, ne-eqb}
 use lib.Dec.{eqb}
-use Rattle.ccsk.specs.Term.{On}
 use Rattle.moves.specs.Choose.{forward-choice}
 use Rattle.moves.specs.Move.{step, stuck, own, overPrefix, joinedIf, hiddenIf}
 use Rattle.shared.specs.Tells.{Tells}
@@ -36,21 +34,6 @@ over-stuck true true done true a = refl
 over-stuck true true done false a = refl
 over-stuck true false done b a = refl
 over-stuck false may done b a = refl
-
--- labels on a channel
-pub on-name : (a l : ℕ) → a ≢ 0 → a ≤ 127 → l ≡ a → On a l
-on-name a l f h e = ((omega arith, h), inl e)
-
-pub on-coname : (a l : ℕ) → a ≢ 0 → a ≤ 127 → l ≢ a → Tells (eqb l (a + 128)) (On a l)
-on-coname a l f h g = pick (ℕ-discrete l (a + 128))
-  where
-    pick : Dec (l ≡ a + 128) → Tells (eqb l (a + 128)) (On a l)
-    pick (yes e) = rw (eq-eqb l (a + 128) e) ((omega arith, h), inr e)
-    pick (no n) = rw (ne-eqb l (a + 128) n) out
-      where
-        out : ¬ On a l
-        out (c, inl e) = g e
-        out (c, inr e) = n e
 
 -- what a test that was made decides
 pub joined-yes : {A : Type 0} (d : Dec A) (b : Bool) → Tells b A → b ≡ true → step 0 ≡ joinedIf d

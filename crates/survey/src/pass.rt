@@ -7,7 +7,6 @@ use crate::seen::Ask;
 use crate::seen::Seen;
 use reader::DEPTH;
 use reader::Head;
-use reader::KINDS;
 use reader::NODES;
 use reader::PARALLEL;
 use reader::PREFIX;
@@ -21,7 +20,6 @@ ghost use mathlib.Core.Path.{_≡_};
 ghost use Prim.Native.Nat.{_+_, _*_, _≤_, _<_};
 ghost use lib.ListN.{length};
 ghost use Rattle.format.specs.Limits.{node-limit};
-ghost use Rattle.reader.specs.Head.{Tables};
 ghost use Rattle.survey.specs.Over.{OverOne};
 ghost use Rattle.survey.specs.Survey.{Surveyed, Looked};
 
@@ -51,19 +49,11 @@ fn at_one(s: &[u8], at: usize, kind: usize, n: usize, ask: Ask, below: Seen) -> 
 }
 
 // What a pass over the term at `at` comes to: at most `deep` levels and `left` nodes may come, so its root is node NODES - left.
-fn survey(
-    s: &[u8],
-    at: usize,
-    deep: usize,
-    left: usize,
-    ask: Ask,
-    bodies: &[usize; KINDS],
-    families: &[usize; KINDS],
-) -> Outcome
-    requires { ⌜ (left ≤ node-limit) × (at + 4 * left ≤ 4 * node-limit) × Tables (now bodies) (now families) ⌝ }
+fn survey(s: &[u8], at: usize, deep: usize, left: usize, ask: Ask) -> Outcome
+    requires { ⌜ (left ≤ node-limit) × (at + 4 * left ≤ 4 * node-limit) ⌝ }
     ensures { λ r. ⌜ Surveyed (now (s .entry)) at deep left ask r ⌝ }
 {
-    match node_due(s, at, deep, left, bodies, families) {
+    match node_due(s, at, deep, left) {
         Head::Refused(c) => Outcome::Refused(c),
         Head::Node {
             kind,
@@ -73,14 +63,14 @@ fn survey(
             if children == 0 {
                 return Outcome::Part(narrow(next), narrow(left - 1), at_nil());
             }
-            match survey(s, next, deep - 1, left - 1, ask, bodies, families) {
+            match survey(s, next, deep - 1, left - 1, ask) {
                 Outcome::Refused(c) => Outcome::Refused(c),
                 Outcome::Part(second, rest, below) => {
                     if children == 1 {
                         let found = at_one(s, at, kind, NODES - left, ask, below);
                         return Outcome::Part(second, rest, found);
                     }
-                    match survey(s, wide(second), deep - 1, wide(rest), ask, bodies, families) {
+                    match survey(s, wide(second), deep - 1, wide(rest), ask) {
                         Outcome::Refused(c) => Outcome::Refused(c),
                         Outcome::Part(end, last, other) => {
                             Outcome::Part(end, last, at_two(kind == PARALLEL, below, other))
@@ -96,9 +86,7 @@ fn survey(
 pub fn survey_all(s: &[u8], ask: Ask) -> Whole
     ensures { λ r. ⌜ Looked (now (s .entry)) ask r ⌝ }
 {
-    let bodies = reader::BODY;
-    let families = reader::CHILDREN;
-    match survey(s, 0, DEPTH, NODES, ask, &bodies, &families) {
+    match survey(s, 0, DEPTH, NODES, ask) {
         Outcome::Refused(c) => Whole::Refused(c),
         Outcome::Part(next, _, seen) => {
             if wide(next) < s.len() {

@@ -1,14 +1,11 @@
 // What one pass finds of a part of a record, and how the moves of its parts combine at each node.
-use shared::CO;
-use shared::LAST_NAME;
 use shared::NOT_DONE;
 use shared::Name;
 use shared::TAU;
 use shared::complementary;
+use shared::is_on;
 ghost use mathlib.Core.Path.{_≡_};
 ghost use Rattle.moves.specs.Move.{overPrefix, overChoice, overParallel, overRestriction};
-ghost use Rattle.ccsk.specs.Term.{On};
-ghost use Rattle.shared.specs.Tells.{Tells};
 ghost use Rattle.survey.specs.Seen.{moveOf, choiceOf, mayOf};
 
 // The chosen prefixes of a part: none is there; all that are there step together, with this label; or they do not.
@@ -92,23 +89,6 @@ pub fn over_prefix(chosen: bool, may: bool, done: bool, any: bool, action: u8, b
         }
         Move::Stuck => Move::Stuck,
     }
-}
-
-// Whether the label is this name or its co-name. What is no name has no label on it.
-pub fn is_on(name: Name, l: u8) -> bool
-    ensures { λ r. ⌜ Tells r (On (name .0) l) ⌝ }
-{
-    let a = name.0;
-    if a == 0 {
-        return false;
-    }
-    if LAST_NAME < a {
-        return false;
-    }
-    if l == a {
-        return true;
-    }
-    l == a + CO
 }
 
 // The move of a choice, from whether each side holds a key and the moves of the sides.

@@ -1,7 +1,6 @@
 // One pass over a record that reads it and notes, in lent arrays, its keys and the prefixes that can be the last to have been done.
 use reader::CHOICE;
 use reader::Head;
-use reader::KINDS;
 use reader::NODES;
 use reader::PREFIX;
 use reader::RESTRICTION;
@@ -15,7 +14,6 @@ ghost use mathlib.Core.Path.{_≡_};
 ghost use Prim.Native.Nat.{_+_, _≤_, _<_};
 ghost use lib.ListN.{length, getD};
 ghost use Rattle.format.specs.Limits.{node-limit};
-ghost use Rattle.reader.specs.Head.{Tables};
 ghost use Rattle.undos.specs.Gather.{lent, rows, Enters, OverPrefix, over-two, Sized, Gathers, closed};
 
 // What a pass over the term at a place comes to: a refusal, or where the term ends, how many nodes may still come, and how many keys and
@@ -144,14 +142,12 @@ pub fn gather(
     action: &mut [u8; NODES],
     scope: &mut [u16; NODES],
     scopes: &mut [u16; NAMES],
-    bodies: &[usize; KINDS],
-    families: &[usize; KINDS],
 ) -> Outcome
-    requires { ⌜ (keys + left ≤ node-limit) × (lasts ≤ keys) × Tables (now bodies) (now families) ⌝ }
+    requires { ⌜ (keys + left ≤ node-limit) × (lasts ≤ keys) ⌝ }
     requires { ⌜ Sized (now scopes) (now all) (now key) (now action) (now scope) ⌝ }
     ensures { λ r. ⌜ Gathers (now (s .entry)) at deep left keys lasts (lent (now (scopes .entry)) (now (all .entry)) (now (key .entry)) (now (action .entry)) (now (scope .entry))) r (lent (now (scopes .exit)) (now (all .exit)) (now (key .exit)) (now (action .exit)) (now (scope .exit))) (Sized (now (scopes .exit)) (now (all .exit)) (now (key .exit)) (now (action .exit)) (now (scope .exit))) ⌝ }
 {
-    match node_due(s, at, deep, left, bodies, families) {
+    match node_due(s, at, deep, left) {
         Head::Refused(c) => Outcome::Refused(c),
         Head::Node {
             kind,
@@ -174,8 +170,6 @@ pub fn gather(
                 action,
                 scope,
                 scopes,
-                bodies,
-                families,
             ) {
                 Outcome::Refused(c) => Outcome::Refused(c),
                 Outcome::Part(second, rest, k, l) => {
@@ -210,8 +204,6 @@ pub fn gather(
                         action,
                         scope,
                         scopes,
-                        bodies,
-                        families,
                     ) {
                         Outcome::Refused(c) => Outcome::Refused(c),
                         Outcome::Part(end, last, m, n) => {

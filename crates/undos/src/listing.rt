@@ -114,8 +114,6 @@ pub fn undo_listing(bytes: &[u8], row: &mut [u16]) -> Number
     let mut action = [0u8; NODES];
     let mut scope = [0u16; NODES];
     let mut scopes = [0u16; NAMES];
-    let bodies = reader::BODY;
-    let families = reader::CHILDREN;
     match gather(
         bytes,
         0,
@@ -128,8 +126,6 @@ pub fn undo_listing(bytes: &[u8], row: &mut [u16]) -> Number
         &mut action,
         &mut scope,
         &mut scopes,
-        &bodies,
-        &families,
     ) {
         Outcome::Refused(c) => Number::Refused(c),
         Outcome::Part(next, _, keys, lasts) => {

@@ -20,7 +20,7 @@ node-at-requires : tie.Need-node-at-requires
 node-at-requires c κs = search needs
 
 returns-5 : tie.Need-returns-5
-returns-5 c = let a = c .before .before .before .before .before .before .before .before .before .before .args in due-head (a .bytes .now) (a .c) (c .before .before .before .before .before .before .before .if1 .left) (c .node-at .result) (c .before .before .before .before .before .before .if2 .left) (c .before .before .before .before .if3 .left) (c .node-at .ensures)
+returns-5 c = let a = c .before .before .before .before .before .before .before .before .args in due-head (a .bytes .now) (a .c) (c .before .before .before .before .before .if1 .left) (c .node-at .result) (c .before .before .before .before .if2 .left) (c .before .before .if3 .left) (c .node-at .ensures)
 
 pub due-at-spec : {M : Type 1} → statement M
 due-at-spec = tie.close (tie.spec returns returns-2 returns-3 returns-4 node-at-requires returns-5)

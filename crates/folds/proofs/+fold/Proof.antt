@@ -16,17 +16,17 @@ use Rattle.reader.proofs.node_due.Reads as node-due-reads
 use Rattle.folds.proofs.+fold.{statement}
 use Rattle.folds.proofs.+fold.Tie.{close}
 
-abbrev μ-fold : Measures 3 fold-kinds.ps ℕ
+abbrev μ-fold : Measures 1 fold-kinds.ps ℕ
 μ-fold κs a = a .1 .1 .0
 
-abbrev fold-at : ℕ → In 3 fold-kinds.ps
-fold-at t = and 3 fold-kinds.ps (is 3 fold-kinds.ps μ-fold t) fold.Pre
+abbrev fold-at : ℕ → In 1 fold-kinds.ps
+fold-at t = and 1 fold-kinds.ps (is 1 fold-kinds.ps μ-fold t) fold.Pre
 
-abbrev fold-below : ℕ → In 3 fold-kinds.ps
-fold-below t = and 3 fold-kinds.ps (falls 3 fold-kinds.ps _<_ μ-fold t) fold.Pre
+abbrev fold-below : ℕ → In 1 fold-kinds.ps
+fold-below t = and 1 fold-kinds.ps (falls 1 fold-kinds.ps _<_ μ-fold t) fold.Pre
 
 fold-node-due-requires : (t : ℕ) → fold-lts.Need-node-due-requires (node-due-reads.Asked, node-due-reads.Learnt, at-nil-reads.Asked, at-nil-reads.Learnt, fold-below t, fold.Post, at-one-reads.Asked, at-one-reads.Learnt, at-two-reads.Asked, at-two-reads.Learnt) (fold-at t) fold.Post
-fold-node-due-requires t c κs = c .before .pre .1
+fold-node-due-requires t c κs = search needs
 
 fold-enum-known-c : (t : ℕ) → fold-lts.Need-enum-known-c (node-due-reads.Asked, node-due-reads.Learnt, at-nil-reads.Asked, at-nil-reads.Learnt, fold-below t, fold.Post, at-one-reads.Asked, at-one-reads.Learnt, at-two-reads.Asked, at-two-reads.Learnt) (fold-at t) fold.Post
 fold-enum-known-c t c = search needs
@@ -34,8 +34,8 @@ fold-enum-known-c t c = search needs
 fold-enum-known-kind : (t : ℕ) → fold-lts.Need-enum-known-kind (node-due-reads.Asked, node-due-reads.Learnt, at-nil-reads.Asked, at-nil-reads.Learnt, fold-below t, fold.Post, at-one-reads.Asked, at-one-reads.Learnt, at-two-reads.Asked, at-two-reads.Learnt) (fold-at t) fold.Post
 fold-enum-known-kind t c = search needs
 
-fold-sub-t22 : (t : ℕ) → fold-lts.Need-sub-t22 (node-due-reads.Asked, node-due-reads.Learnt, at-nil-reads.Asked, at-nil-reads.Learnt, fold-below t, fold.Post, at-one-reads.Asked, at-one-reads.Learnt, at-two-reads.Asked, at-two-reads.Learnt) (fold-at t) fold.Post
-fold-sub-t22 t c = omega (arith, (due-node (c .before .before .before .before .before .before .args .s .now) _ _ _ (c .before .before .before .before .node-due .result) (c .before .before .before .before .node-due .ensures) _ _ _ (c .before .before .kind .given .1)) .nodes)
+fold-sub-t20 : (t : ℕ) → fold-lts.Need-sub-t20 (node-due-reads.Asked, node-due-reads.Learnt, at-nil-reads.Asked, at-nil-reads.Learnt, fold-below t, fold.Post, at-one-reads.Asked, at-one-reads.Learnt, at-two-reads.Asked, at-two-reads.Learnt) (fold-at t) fold.Post
+fold-sub-t20 t c = omega (arith, (due-node (c .before .before .before .before .before .before .args .s .now) _ _ _ (c .before .before .before .before .node-due .result) (c .before .before .before .before .node-due .ensures) _ _ _ (c .before .before .kind .given .1)) .nodes)
 
 fold-at-nil-requires : (t : ℕ) → fold-lts.Need-at-nil-requires (node-due-reads.Asked, node-due-reads.Learnt, at-nil-reads.Asked, at-nil-reads.Learnt, fold-below t, fold.Post, at-one-reads.Asked, at-one-reads.Learnt, at-two-reads.Asked, at-two-reads.Learnt) (fold-at t) fold.Post
 fold-at-nil-requires t c κs = search needs
@@ -98,7 +98,7 @@ pub +fold-spec : {M : Type 1} → statement M
     (fold-node-due-requires t)
     (fold-enum-known-c t)
     (fold-enum-known-kind t)
-    (fold-sub-t22 t)
+    (fold-sub-t20 t)
     (fold-at-nil-requires t)
     (fold-returns t)
     (fold-sub-fold t)

@@ -15,13 +15,13 @@ enum-known-next : tie.Need-enum-known-next
 enum-known-next c = search needs
 
 returns : tie.Need-returns
-returns c = whole-trailing (c .before .before .before .before .before .before .before .before .args .s .now) (c .before .before .before .before .fold .result) (c .before .before .before .before .fold .ensures) _ _ _ (c .before .before .next .given .1) (omega arith)
+returns c = whole-trailing (c .before .before .before .before .before .before .args .s .now) (c .before .before .before .before .fold .result) (c .before .before .before .before .fold .ensures) _ _ _ (c .before .before .next .given .1) (omega arith)
 
 returns-2 : tie.Need-returns-2
-returns-2 c = whole-refused (c .before .before .before .before .before .before .before .args .s .now) (c .before .before .before .fold .result) (c .before .before .before .fold .ensures) _ (c .before .c .given .1)
+returns-2 c = whole-refused (c .before .before .before .before .before .args .s .now) (c .before .before .before .fold .result) (c .before .before .before .fold .ensures) _ (c .before .c .given .1)
 
 returns-3 : tie.Need-returns-3
-returns-3 c = whole-read (c .before .before .before .before .before .before .before .before .args .s .now) (c .before .before .before .before .fold .result) (c .before .before .before .before .fold .ensures) _ _ _ (c .before .before .next .given .1) (omega arith)
+returns-3 c = whole-read (c .before .before .before .before .before .before .args .s .now) (c .before .before .before .before .fold .result) (c .before .before .before .before .fold .ensures) _ _ _ (c .before .before .next .given .1) (omega arith)
 
 pub fold-all-spec : {M : Type 1} → statement M
 fold-all-spec =

@@ -3,48 +3,29 @@ use native.Mathlib.Omega.{arith}
 use mathlib.Core.Path.{refl}
 use Prim.Native.Nat.{_-_}
 use lib.ListN.{length}
+use Rattle.keys.proofs.AtNode.{due-within}
 use Rattle.keys.proofs.Clearing.{Clearing, erased, onward, start}
 use Rattle.keyset.specs.Set.{member}
-use Rattle.format.proofs.Flat.{key-within, kind-known, ends-within}
-use borrow.Author.Needs.{needs}
 use Rattle.keys.proofs.erase.Statement.{statement}
 use Rattle.keys.proofs.erase.Tie as tie
 
 abbrev Inv-loop : tie.InvT-loop
-Inv-loop bytes₀ marks body at₀ bytes at = Clearing (member marks) bytes₀ bytes at
+Inv-loop bytes₀ marks at₀ bytes at = Clearing (member marks) bytes₀ bytes at
 
 abbrev μ-loop : tie.MeasureT-loop
-μ-loop bytes₀ marks body at₀ bytes at = length bytes - at
+μ-loop bytes₀ marks at₀ bytes at = length bytes - at
 
 loop-holds : tie.Need-loop-holds Inv-loop μ-loop
 loop-holds c = start (member (c .before .args .marks .now)) (c .before .args .bytes .now) (c .before .pre .0)
 
-slice-read-wide-byte : tie.Need-slice-read-wide-byte Inv-loop μ-loop
-slice-read-wide-byte c = search needs
-
-wide-byte-requires : tie.Need-wide-byte-requires Inv-loop μ-loop
-wide-byte-requires c κs = search needs
-
-erase-at-requires : tie.Need-erase-at-requires Inv-loop μ-loop
-erase-at-requires c κs = (c .before .before .before .loop-test .taken, key-within (c .before .before .before .before .loop .bytes) (c .before .before .before .before .loop .at) _ (c .before .before .before .before .loop .inv .due) (c .before .before .before .loop-test .taken), c .before .before .before .before .before .before .pre .1)
-
-mul-at : tie.Need-mul-at Inv-loop μ-loop
-mul-at c = omega (arith, kind-known (c .before .before .before .before .before .before .before .loop .bytes) (c .before .before .before .before .before .before .before .loop .at) _ (c .before .before .before .before .before .before .before .loop .inv .due) (c .before .before .before .before .before .before .loop-test .taken) (c .before .before .before .before .wide-byte .result) (c .before .before .before .before .wide-byte .ensures))
-
-array-read-at : tie.Need-array-read-at Inv-loop μ-loop
-array-read-at c = kind-known (c .before .before .before .before .before .before .before .loop .bytes) (c .before .before .before .before .before .before .before .loop .at) _ (c .before .before .before .before .before .before .before .loop .inv .due) (c .before .before .before .before .before .before .loop-test .taken) (c .before .before .before .before .wide-byte .result) (c .before .before .before .before .wide-byte .ensures)
-
-add-at : tie.Need-add-at Inv-loop μ-loop
-add-at c = omega (arith, ends-within (c .before .before .before .before .before .before .before .loop .bytes) (c .before .before .before .before .before .before .before .loop .at) _ (c .before .before .before .before .before .before .before .loop .inv .due) (c .before .before .before .before .before .before .loop-test .taken) (c .before .before .before .before .wide-byte .result) (c .before .before .before .before .wide-byte .ensures))
-
-add-at-2 : tie.Need-add-at-2 Inv-loop μ-loop
-add-at-2 c = omega (arith, ends-within (c .before .before .before .before .before .before .before .loop .bytes) (c .before .before .before .before .before .before .before .loop .at) _ (c .before .before .before .before .before .before .before .loop .inv .due) (c .before .before .before .before .before .before .loop-test .taken) (c .before .before .before .before .wide-byte .result) (c .before .before .before .before .wide-byte .ensures))
+erase-past-requires : tie.Need-erase-past-requires Inv-loop μ-loop
+erase-past-requires c κs = (due-within (c .before .before .loop .bytes) (c .before .before .loop .at) (c .before .loop-test .taken) _ (c .before .before .loop .inv .due), c .before .before .before .before .pre .1)
 
 loop-less : tie.Need-loop-less Inv-loop μ-loop
-loop-less c = omega (arith, ends-within (c .before .before .before .before .before .before .before .loop .bytes) (c .before .before .before .before .before .before .before .loop .at) _ (c .before .before .before .before .before .before .before .loop .inv .due) (c .before .before .before .before .before .before .loop-test .taken) (c .before .before .before .before .wide-byte .result) (c .before .before .before .before .wide-byte .ensures), c .before .bytes .given, c .before .before .before .before .before .before .loop-test .taken)
+loop-less c = omega (arith, (due-within (c .before .before .before .before .before .loop .bytes) (c .before .before .before .before .before .loop .at) (c .before .before .before .before .loop-test .taken) _ (c .before .before .before .before .before .loop .inv .due)) .1, c .before .before .erase-past .ensures .1, c .before .bytes .given, c .before .before .before .before .loop-test .taken)
 
 loop-again : tie.Need-loop-again Inv-loop μ-loop
-loop-again c = onward (member (c .before .before .before .before .before .before .before .before .before .args .marks .now)) (c .before .before .before .before .before .before .before .before .before .args .bytes .now) (c .before .before .before .before .before .before .before .loop .bytes) (c .before .before .before .before .before .before .before .loop .at) (c .before .before .before .before .before .before .before .loop .inv) (c .before .before .before .before .before .before .loop-test .taken) (c .before .before .before .before .wide-byte .result) (c .before .before .before .before .wide-byte .ensures) _ refl _ (c .before .before .erase-at .ensures)
+loop-again c = rw (c .before .before .erase-past .ensures .1) (onward (member (c .before .before .before .before .before .before .before .args .marks .now)) (c .before .before .before .before .before .before .before .args .bytes .now) (c .before .before .before .before .before .loop .bytes) (c .before .before .before .before .before .loop .at) (c .before .before .before .before .before .loop .inv) (c .before .before .before .before .loop-test .taken) _ refl _ refl _ (c .before .before .erase-past .ensures .0))
 
 same-length : tie.Need-same-length Inv-loop μ-loop
 same-length c = c .before .loop .inv .same
@@ -59,13 +40,7 @@ erase-spec =
     Inv-loop
     μ-loop
     loop-holds
-    slice-read-wide-byte
-    wide-byte-requires
-    erase-at-requires
-    mul-at
-    array-read-at
-    add-at
-    add-at-2
+    erase-past-requires
     loop-less
     loop-again
     same-length

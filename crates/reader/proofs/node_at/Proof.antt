@@ -1,8 +1,6 @@
--- `node_at` meets its contract: each return is one law of Heads, at the byte of kind that was read.
-use native.Mathlib.Omega.{arith}
+-- `node_at` meets its contract: a prefix and a restriction have a function each, every other return is one law of Heads.
 use mathlib.Core.Path.{refl}
-use mathlib.Core.Logic.{⊎-elim}
-use Rattle.reader.proofs.Heads.{room, at-kind, at-cut, at-action, at-zero, at-name, at-good}
+use Rattle.reader.proofs.Heads.{at-no-kind, at-nil, at-two}
 use borrow.Author.Needs.{needs}
 use Rattle.reader.proofs.node_at.Statement.{statement}
 use Rattle.reader.proofs.node_at.Tie as tie
@@ -13,53 +11,50 @@ shared-slice-read-wide-byte c = search needs
 wide-byte-requires : tie.Need-wide-byte-requires
 wide-byte-requires c κs = search needs
 
+prefix-at-requires : tie.Need-prefix-at-requires
+prefix-at-requires c κs = search needs
+
 returns : tie.Need-returns
-returns c = (refl, at-kind (c .before .before .before .before .args .s .now) (c .before .before .before .before .args .at) (c .before .wide-byte .result) (c .before .wide-byte .ensures) (c .if1 .taken))
+returns c = c .prefix-at .ensures
 
-mul-body : tie.Need-mul-body
-mul-body c = search needs
-
-element-copy-out-body : tie.Need-element-copy-out-body
-element-copy-out-body c = search needs
-
-add-from : tie.Need-add-from
-add-from c = search needs
-
-sub-if2 : tie.Need-sub-if2
-sub-if2 c = search needs
+restriction-at-requires : tie.Need-restriction-at-requires
+restriction-at-requires c κs = search needs
 
 returns-2 : tie.Need-returns-2
-returns-2 c = (refl, at-cut (c .before .before .before .before .before .before .args .s .now) (c .before .before .before .before .before .before .args .at) (c .before .before .before .wide-byte .result) (c .before .before .before .wide-byte .ensures) (c .before .before .if1 .left) (rw (c .before .before .before .before .before .before .pre .1 .0) at (c .if2 .taken)))
-
-shared-slice-read-if4 : tie.Need-shared-slice-read-if4
-shared-slice-read-if4 c = omega (arith, room _ _ _ (c .before .if3 .taken) (rw (c .before .before .before .before .before .before .before .before .pre .1 .0) at (c .before .before .if2 .left)))
+returns-2 c = c .restriction-at .ensures
 
 returns-3 : tie.Need-returns-3
-returns-3 c = (refl, at-action (c .before .before .before .before .before .before .before .before .before .args .s .now) (c .before .before .before .before .before .before .before .before .before .args .at) (c .before .before .before .before .before .before .wide-byte .result) (c .before .before .before .before .before .before .wide-byte .ensures) (c .before .before .if3 .taken) (rw (c .before .before .before .before .before .before .before .before .before .pre .1 .0) at (c .before .before .before .if2 .left)) (c .if4 .taken))
+returns-3 c = (refl, at-no-kind (c .before .before .before .before .before .before .args .s .now) (c .before .before .before .before .before .before .args .at) (c .before .before .before .wide-byte .result) (c .before .before .before .wide-byte .ensures) (c .if3 .taken))
 
-shared-slice-read-if6 : tie.Need-shared-slice-read-if6
-shared-slice-read-if6 c = omega (arith, room _ _ _ (c .before .if5 .taken) (rw (c .before .before .before .before .before .before .before .before .before .pre .1 .0) at (c .before .before .before .if2 .left)))
+child-count-requires : tie.Need-child-count-requires
+child-count-requires c κs = search needs
+
+add-t8 : tie.Need-add-t8
+add-t8 c = search needs
+
+body-length-requires : tie.Need-body-length-requires
+body-length-requires c κs = search needs
+
+add-t10 : tie.Need-add-t10
+add-t10 c = search needs
 
 returns-4 : tie.Need-returns-4
-returns-4 c = (refl, at-zero (c .before .before .before .before .before .before .before .before .before .before .args .s .now) (c .before .before .before .before .before .before .before .before .before .before .args .at) (c .before .before .before .before .before .before .before .wide-byte .result) (c .before .before .before .before .before .before .before .wide-byte .ensures) (c .before .before .if5 .taken) (rw (c .before .before .before .before .before .before .before .before .before .before .pre .1 .0) at (c .before .before .before .before .if2 .left)) (c .if6 .taken))
+returns-4 c = rw (c .before .child-count .ensures, c .body-length .ensures) (at-nil (c .before .before .before .before .before .before .before .before .before .args .s .now) (c .before .before .before .before .before .before .before .before .before .args .at) (c .before .before .before .before .before .before .before .before .before .pre, rw (c .before .before .if4 .taken) at (c .before .before .before .before .before .before .wide-byte .ensures)))
 
-shared-slice-read-if7 : tie.Need-shared-slice-read-if7
-shared-slice-read-if7 c = omega (arith, room _ _ _ (c .before .before .before .if5 .taken) (rw (c .before .before .before .before .before .before .before .before .before .before .before .pre .1 .0) at (c .before .before .before .before .before .if2 .left)))
+child-count-requires-2 : tie.Need-child-count-requires-2
+child-count-requires-2 c κs = search needs
+
+add-t12 : tie.Need-add-t12
+add-t12 c = search needs
+
+body-length-requires-2 : tie.Need-body-length-requires-2
+body-length-requires-2 c κs = search needs
+
+add-t14 : tie.Need-add-t14
+add-t14 c = search needs
 
 returns-5 : tie.Need-returns-5
-returns-5 c = (refl, at-name (c .before .before .before .before .before .before .before .before .before .before .before .before .args .s .now) (c .before .before .before .before .before .before .before .before .before .before .before .before .args .at) (c .before .before .before .before .before .before .before .before .before .wide-byte .result) (c .before .before .before .before .before .before .before .before .before .wide-byte .ensures) (c .before .before .before .before .if5 .taken) (rw (c .before .before .before .before .before .before .before .before .before .before .before .before .pre .1 .0) at (c .before .before .before .before .before .before .if2 .left)) (c .before .before .if6 .left) (c .if7 .taken))
-
-mul-t11 : tie.Need-mul-t11
-mul-t11 c = search needs
-
-element-copy-out-t14 : tie.Need-element-copy-out-t14
-element-copy-out-t14 c = search needs
-
-add-t24 : tie.Need-add-t24
-add-t24 c = search needs
-
-returns-6 : tie.Need-returns-6
-returns-6 c = rw (c .before .before .before .before .before .before .before .before .before .pre .1 .1, c .before .before .before .before .before .before .before .before .before .pre .1 .0) (at-good (c .before .before .before .before .before .before .before .before .before .args .s .now) (c .before .before .before .before .before .before .before .before .before .args .at) (c .before .before .before .before .before .before .wide-byte .result) (c .before .before .before .before .before .before .wide-byte .ensures) (c .before .before .before .before .before .before .before .before .before .pre .0) (c .before .before .before .before .before .if1 .left) (rw (c .before .before .before .before .before .before .before .before .before .pre .1 .0) at (c .before .before .before .if2 .left)) (⊎-elim (λ u v. u .2 .left) (λ u v. absurd (u .left v)) (c .before .before .if3 .came)) (⊎-elim (λ u v. (u .2 .left, u .4 .left)) (λ u v. absurd (u .left v)) (c .before .if5 .came)))
+returns-5 c = rw (c .before .child-count2 .ensures, c .body-length2 .ensures) (at-two (c .before .before .before .before .before .before .before .before .before .args .s .now) (c .before .before .before .before .before .before .before .before .before .args .at) (c .before .before .before .before .before .before .wide-byte .result) (c .before .before .before .if3 .left) (c .before .before .before .before .before .before .before .before .before .pre, c .before .before .before .before .before .before .wide-byte .ensures) (c .before .before .if4 .left) (c .before .before .before .before .before .if1 .left) (c .before .before .before .before .if2 .left))
 
 pub node-at-spec : {M : Type 1} → statement M
 node-at-spec =
@@ -67,19 +62,18 @@ node-at-spec =
     (tie.spec
     shared-slice-read-wide-byte
     wide-byte-requires
+    prefix-at-requires
     returns
-    mul-body
-    element-copy-out-body
-    add-from
-    sub-if2
+    restriction-at-requires
     returns-2
-    shared-slice-read-if4
     returns-3
-    shared-slice-read-if6
+    child-count-requires
+    add-t8
+    body-length-requires
+    add-t10
     returns-4
-    shared-slice-read-if7
-    returns-5
-    mul-t11
-    element-copy-out-t14
-    add-t24
-    returns-6)
+    child-count-requires-2
+    add-t12
+    body-length-requires-2
+    add-t14
+    returns-5)

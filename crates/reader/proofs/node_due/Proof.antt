@@ -13,7 +13,7 @@ returns-3 : tie.Need-returns-3
 returns-3 c = stops-left (c .before .before .before .before .args .s .now) (c .before .before .before .before .args .at) (c .before .before .before .before .args .deep) (c .before .before .before .before .args .left) (c .before .before .if1 .left) (c .if3 .taken)
 
 node-at-requires : tie.Need-node-at-requires
-node-at-requires c κs = (c .before .before .if1 .left, c .before .before .before .before .pre)
+node-at-requires c κs = c .before .before .if1 .left
 
 returns-4 : tie.Need-returns-4
 returns-4 c = due-head (c .before .before .before .before .before .args .s .now) (c .before .before .before .before .before .args .at) (c .before .before .before .before .before .args .deep) (c .before .before .before .before .before .args .left) (c .node-at .result) (c .before .before .before .if1 .left) (c .before .before .if2 .left) (c .before .if3 .left) (c .node-at .ensures)

@@ -11,10 +11,10 @@ sub-top : tie.Need-sub-top
 sub-top c = search needs
 
 mul-levels : tie.Need-mul-levels
-mul-levels c = omega (arith, top-inside (c .before .args .s .now) (c .before .args .due .now) (c .before .args .many) (c .before .args .left) (c .before .args .at) (c .before .pre .1 .1) (c .before .pre .1 .0))
+mul-levels c = omega (arith, top-inside (c .before .args .s .now) (c .before .args .due .now) (c .before .args .many) (c .before .args .left) (c .before .args .at) (c .before .pre .1) (c .before .pre .0))
 
 element-copy-out-levels : tie.Need-element-copy-out-levels
-element-copy-out-levels c = omega (arith, c .before .pre .1 .1 .room, top-inside (c .before .args .s .now) (c .before .args .due .now) (c .before .args .many) (c .before .args .left) (c .before .args .at) (c .before .pre .1 .1) (c .before .pre .1 .0))
+element-copy-out-levels c = omega (arith, c .before .pre .1 .room, top-inside (c .before .args .s .now) (c .before .args .due .now) (c .before .args .many) (c .before .args .left) (c .before .args .at) (c .before .pre .1) (c .before .pre .0))
 
 node-due-requires : tie.Need-node-due-requires
 node-due-requires c κs = search needs
@@ -29,22 +29,22 @@ sub-below : tie.Need-sub-below
 sub-below c = omega (arith, (due-node (c .before .before .before .before .before .before .args .s .now) _ _ _ (c .before .before .before .node-due .result) (c .before .before .before .node-due .ensures) _ _ _ (c .before .head2 .given .1)) .levels)
 
 mul-due : tie.Need-mul-due
-mul-due c = omega (arith, top-inside (c .before .before .before .before .before .before .args .s .now) (c .before .before .before .before .before .before .args .due .now) (c .before .before .before .before .before .before .args .many) (c .before .before .before .before .before .before .args .left) (c .before .before .before .before .before .before .args .at) (c .before .before .before .before .before .before .pre .1 .1) (c .before .before .before .before .before .before .pre .1 .0))
+mul-due c = omega (arith, top-inside (c .before .before .before .before .before .before .args .s .now) (c .before .before .before .before .before .before .args .due .now) (c .before .before .before .before .before .before .args .many) (c .before .before .before .before .before .before .args .left) (c .before .before .before .before .before .before .args .at) (c .before .before .before .before .before .before .pre .1) (c .before .before .before .before .before .before .pre .0))
 
 element-write-due : tie.Need-element-write-due
-element-write-due c = omega (arith, c .before .before .before .before .before .before .pre .1 .1 .room, top-inside (c .before .before .before .before .before .before .args .s .now) (c .before .before .before .before .before .before .args .due .now) (c .before .before .before .before .before .before .args .many) (c .before .before .before .before .before .before .args .left) (c .before .before .before .before .before .before .args .at) (c .before .before .before .before .before .before .pre .1 .1) (c .before .before .before .before .before .before .pre .1 .0))
+element-write-due c = omega (arith, c .before .before .before .before .before .before .pre .1 .room, top-inside (c .before .before .before .before .before .before .args .s .now) (c .before .before .before .before .before .before .args .due .now) (c .before .before .before .before .before .before .args .many) (c .before .before .before .before .before .before .args .left) (c .before .before .before .before .before .before .args .at) (c .before .before .before .before .before .before .pre .1) (c .before .before .before .before .before .before .pre .0))
 
 mul-due-2 : tie.Need-mul-due-2
-mul-due-2 c = omega (arith, many-inside (c .before .before .before .before .before .before .args .s .now) (c .before .before .before .before .before .before .args .due .now) (c .before .before .before .before .before .before .args .many) (c .before .before .before .before .before .before .args .left) (c .before .before .before .before .before .before .args .at) (c .before .before .before .before .before .before .pre .1 .1) (c .before .before .before .before .before .before .pre .1 .0) _ _ _ (due-node (c .before .before .before .before .before .before .args .s .now) _ _ _ (c .before .before .before .node-due .result) (c .before .before .before .node-due .ensures) _ _ _ (c .before .head2 .given .1)))
+mul-due-2 c = omega (arith, many-inside (c .before .before .before .before .before .before .args .s .now) (c .before .before .before .before .before .before .args .due .now) (c .before .before .before .before .before .before .args .many) (c .before .before .before .before .before .before .args .left) (c .before .before .before .before .before .before .args .at) (c .before .before .before .before .before .before .pre .1) (c .before .before .before .before .before .before .pre .0) _ _ _ (due-node (c .before .before .before .before .before .before .args .s .now) _ _ _ (c .before .before .before .node-due .result) (c .before .before .before .node-due .ensures) _ _ _ (c .before .head2 .given .1)))
 
 element-write-due-2 : tie.Need-element-write-due-2
-element-write-due-2 c = omega (arith, c .before .before .before .before .before .before .pre .1 .1 .room, many-inside (c .before .before .before .before .before .before .args .s .now) (c .before .before .before .before .before .before .args .due .now) (c .before .before .before .before .before .before .args .many) (c .before .before .before .before .before .before .args .left) (c .before .before .before .before .before .before .args .at) (c .before .before .before .before .before .before .pre .1 .1) (c .before .before .before .before .before .before .pre .1 .0) _ _ _ (due-node (c .before .before .before .before .before .before .args .s .now) _ _ _ (c .before .before .before .node-due .result) (c .before .before .before .node-due .ensures) _ _ _ (c .before .head2 .given .1)))
+element-write-due-2 c = omega (arith, c .before .before .before .before .before .before .pre .1 .room, many-inside (c .before .before .before .before .before .before .args .s .now) (c .before .before .before .before .before .before .args .due .now) (c .before .before .before .before .before .before .args .many) (c .before .before .before .before .before .before .args .left) (c .before .before .before .before .before .before .args .at) (c .before .before .before .before .before .before .pre .1) (c .before .before .before .before .before .before .pre .0) _ _ _ (due-node (c .before .before .before .before .before .before .args .s .now) _ _ _ (c .before .before .before .node-due .result) (c .before .before .before .node-due .ensures) _ _ _ (c .before .head2 .given .1)))
 
 returns : tie.Need-returns
-returns c = refuse (c .before .before .before .before .before .before .args .s .now) (c .before .before .before .before .before .before .args .due .now) (c .before .before .before .before .before .before .args .many) (c .before .before .before .before .before .before .args .left) (c .before .before .before .before .before .before .args .at) (c .before .before .before .before .before .before .pre .1 .1) (c .before .before .before .before .before .before .pre .1 .0) _ (due-refused (c .before .before .before .before .before .before .args .s .now) _ _ _ (c .before .before .before .node-due .result) (c .before .before .before .node-due .ensures) _ (c .before .head .given .1))
+returns c = refuse (c .before .before .before .before .before .before .args .s .now) (c .before .before .before .before .before .before .args .due .now) (c .before .before .before .before .before .before .args .many) (c .before .before .before .before .before .before .args .left) (c .before .before .before .before .before .before .args .at) (c .before .before .before .before .before .before .pre .1) (c .before .before .before .before .before .before .pre .0) _ (due-refused (c .before .before .before .before .before .before .args .s .now) _ _ _ (c .before .before .before .node-due .result) (c .before .before .before .node-due .ensures) _ (c .before .head .given .1))
 
 returns-2 : tie.Need-returns-2
-returns-2 c = passed (c .before .before .before .before .before .before .args .s .now) (c .before .before .before .before .before .before .args .due .now) (c .before .before .before .before .before .before .args .many) (c .before .before .before .before .before .before .args .left) (c .before .before .before .before .before .before .args .at) (c .before .before .before .before .before .before .pre .1 .1) (c .before .before .before .before .before .before .pre .1 .0) _ _ _ (due-node (c .before .before .before .before .before .before .args .s .now) _ _ _ (c .before .before .before .node-due .result) (c .before .before .before .node-due .ensures) _ _ _ (c .before .head2 .given .1)) _ refl
+returns-2 c = passed (c .before .before .before .before .before .before .args .s .now) (c .before .before .before .before .before .before .args .due .now) (c .before .before .before .before .before .before .args .many) (c .before .before .before .before .before .before .args .left) (c .before .before .before .before .before .before .args .at) (c .before .before .before .before .before .before .pre .1) (c .before .before .before .before .before .before .pre .0) _ _ _ (due-node (c .before .before .before .before .before .before .args .s .now) _ _ _ (c .before .before .before .node-due .result) (c .before .before .before .node-due .ensures) _ _ _ (c .before .head2 .given .1)) _ refl
 
 pub pass-node-spec : {M : Type 1} → statement M
 pass-node-spec =

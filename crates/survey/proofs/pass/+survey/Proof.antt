@@ -18,17 +18,17 @@ use Rattle.shared.proofs.wide.Reads as wide-reads
 use Rattle.survey.proofs.pass.+survey.{statement}
 use Rattle.survey.proofs.pass.+survey.Tie.{close}
 
-abbrev μ-survey : Measures 3 survey-kinds.ps ℕ
+abbrev μ-survey : Measures 1 survey-kinds.ps ℕ
 μ-survey κs a = a .1 .1 .0
 
-abbrev survey-at : ℕ → In 3 survey-kinds.ps
-survey-at t = and 3 survey-kinds.ps (is 3 survey-kinds.ps μ-survey t) survey.Pre
+abbrev survey-at : ℕ → In 1 survey-kinds.ps
+survey-at t = and 1 survey-kinds.ps (is 1 survey-kinds.ps μ-survey t) survey.Pre
 
-abbrev survey-below : ℕ → In 3 survey-kinds.ps
-survey-below t = and 3 survey-kinds.ps (falls 3 survey-kinds.ps _<_ μ-survey t) survey.Pre
+abbrev survey-below : ℕ → In 1 survey-kinds.ps
+survey-below t = and 1 survey-kinds.ps (falls 1 survey-kinds.ps _<_ μ-survey t) survey.Pre
 
 survey-node-due-requires : (t : ℕ) → survey-lts.Need-node-due-requires (node-due-reads.Asked, node-due-reads.Learnt, narrow-reads.Asked, narrow-reads.Learnt, at-nil-reads.Asked, at-nil-reads.Learnt, survey-below t, survey.Post, at-one-reads.Asked, at-one-reads.Learnt, wide-reads.Asked, wide-reads.Learnt, at-two-reads.Asked, at-two-reads.Learnt) (survey-at t) survey.Post
-survey-node-due-requires t c κs = c .before .pre .1 .2
+survey-node-due-requires t c κs = search needs
 
 survey-enum-known-c : (t : ℕ) → survey-lts.Need-enum-known-c (node-due-reads.Asked, node-due-reads.Learnt, narrow-reads.Asked, narrow-reads.Learnt, at-nil-reads.Asked, at-nil-reads.Learnt, survey-below t, survey.Post, at-one-reads.Asked, at-one-reads.Learnt, wide-reads.Asked, wide-reads.Learnt, at-two-reads.Asked, at-two-reads.Learnt) (survey-at t) survey.Post
 survey-enum-known-c t c = search needs
@@ -58,7 +58,7 @@ survey-sub-survey-2 : (t : ℕ) → survey-lts.Need-sub-survey-2 (node-due-reads
 survey-sub-survey-2 t c = omega (arith, (due-node (c .before .before .before .before .before .before .args .s .now) _ _ _ (c .before .before .before .before .node-due .result) (c .before .before .before .before .node-due .ensures) _ _ _ (c .before .before .kind .given .1)) .levels, (due-node (c .before .before .before .before .before .before .args .s .now) _ _ _ (c .before .before .before .before .node-due .result) (c .before .before .before .before .node-due .ensures) _ _ _ (c .before .before .kind .given .1)) .nodes)
 
 survey-survey-requires : (t : ℕ) → survey-lts.Need-survey-requires (node-due-reads.Asked, node-due-reads.Learnt, narrow-reads.Asked, narrow-reads.Learnt, at-nil-reads.Asked, at-nil-reads.Learnt, survey-below t, survey.Post, at-one-reads.Asked, at-one-reads.Learnt, wide-reads.Asked, wide-reads.Learnt, at-two-reads.Asked, at-two-reads.Learnt) (survey-at t) survey.Post
-survey-survey-requires t c κs = (omega (arith, c .before .before .before .before .before .before .pre .0, (due-node (c .before .before .before .before .before .before .args .s .now) _ _ _ (c .before .before .before .before .node-due .result) (c .before .before .before .before .node-due .ensures) _ _ _ (c .before .before .kind .given .1)) .levels), (omega (arith, c .before .before .before .before .before .before .pre .1 .0), omega (arith, c .before .before .before .before .before .before .pre .1 .1, (due-node (c .before .before .before .before .before .before .args .s .now) _ _ _ (c .before .before .before .before .node-due .result) (c .before .before .before .before .node-due .ensures) _ _ _ (c .before .before .kind .given .1)) .nodes, next-near (c .before .before .before .before .before .before .args .s .now) (c .before .before .before .before .before .before .args .at) (c .before .before .before .before .before .before .args .deep) (c .before .before .before .before .before .before .args .left) _ _ _ (due-node (c .before .before .before .before .before .before .args .s .now) _ _ _ (c .before .before .before .before .node-due .result) (c .before .before .before .before .node-due .ensures) _ _ _ (c .before .before .kind .given .1)) (c .before .before .before .before .before .before .args .ask) (c .before .before .before .before .before .before .pre .1 .0)), c .before .before .before .before .before .before .pre .1 .2))
+survey-survey-requires t c κs = (omega (arith, c .before .before .before .before .before .before .pre .0, (due-node (c .before .before .before .before .before .before .args .s .now) _ _ _ (c .before .before .before .before .node-due .result) (c .before .before .before .before .node-due .ensures) _ _ _ (c .before .before .kind .given .1)) .levels), (omega (arith, c .before .before .before .before .before .before .pre .1 .0), omega (arith, c .before .before .before .before .before .before .pre .1 .1, (due-node (c .before .before .before .before .before .before .args .s .now) _ _ _ (c .before .before .before .before .node-due .result) (c .before .before .before .before .node-due .ensures) _ _ _ (c .before .before .kind .given .1)) .nodes, next-near (c .before .before .before .before .before .before .args .s .now) (c .before .before .before .before .before .before .args .at) (c .before .before .before .before .before .before .args .deep) (c .before .before .before .before .before .before .args .left) _ _ _ (due-node (c .before .before .before .before .before .before .args .s .now) _ _ _ (c .before .before .before .before .node-due .result) (c .before .before .before .before .node-due .ensures) _ _ _ (c .before .before .kind .given .1)) (c .before .before .before .before .before .before .args .ask) (c .before .before .before .before .before .before .pre .1 .0))))
 
 survey-enum-known-c-2 : (t : ℕ) → survey-lts.Need-enum-known-c-2 (node-due-reads.Asked, node-due-reads.Learnt, narrow-reads.Asked, narrow-reads.Learnt, at-nil-reads.Asked, at-nil-reads.Learnt, survey-below t, survey.Post, at-one-reads.Asked, at-one-reads.Learnt, wide-reads.Asked, wide-reads.Learnt, at-two-reads.Asked, at-two-reads.Learnt) (survey-at t) survey.Post
 survey-enum-known-c-2 t c = search needs
@@ -85,7 +85,7 @@ survey-wide-requires-2 : (t : ℕ) → survey-lts.Need-wide-requires-2 (node-due
 survey-wide-requires-2 t c κs = search needs
 
 survey-survey-requires-2 : (t : ℕ) → survey-lts.Need-survey-requires-2 (node-due-reads.Asked, node-due-reads.Learnt, narrow-reads.Asked, narrow-reads.Learnt, at-nil-reads.Asked, at-nil-reads.Learnt, survey-below t, survey.Post, at-one-reads.Asked, at-one-reads.Learnt, wide-reads.Asked, wide-reads.Learnt, at-two-reads.Asked, at-two-reads.Learnt) (survey-at t) survey.Post
-survey-survey-requires-2 t c κs = (omega (arith, c .before .before .before .before .before .before .before .before .before .before .before .before .before .pre .0, (due-node (c .before .before .before .before .before .before .before .before .before .before .before .before .before .args .s .now) _ _ _ (c .before .before .before .before .before .before .before .before .before .before .before .node-due .result) (c .before .before .before .before .before .before .before .before .before .before .before .node-due .ensures) _ _ _ (c .before .before .before .before .before .before .before .before .before .kind .given .1)) .levels), (rw (c .wide2 .ensures) (few-left (c .before .before .before .before .before .before .before .before .before .before .before .before .before .args .s .now) _ _ _ (c .before .before .before .before .before .before .before .before .before .before .before .before .before .args .ask) (c .before .before .before .before .before .before .survey .result) (c .before .before .before .before .before .before .survey .ensures) _ _ _ (c .before .before .before .before .second .given .1) (omega (arith, c .before .before .before .before .before .before .before .before .before .before .before .before .before .pre .1 .0))), rw (c .before .wide .ensures, c .wide2 .ensures) (near (c .before .before .before .before .before .before .before .before .before .before .before .before .before .args .s .now) _ _ _ (c .before .before .before .before .before .before .before .before .before .before .before .before .before .args .ask) (c .before .before .before .before .before .before .survey .result) (c .before .before .before .before .before .before .survey .ensures) _ _ _ (c .before .before .before .before .second .given .1) (omega (arith, c .before .before .before .before .before .before .before .before .before .before .before .before .before .pre .1 .1, (due-node (c .before .before .before .before .before .before .before .before .before .before .before .before .before .args .s .now) _ _ _ (c .before .before .before .before .before .before .before .before .before .before .before .node-due .result) (c .before .before .before .before .before .before .before .before .before .before .before .node-due .ensures) _ _ _ (c .before .before .before .before .before .before .before .before .before .kind .given .1)) .nodes, next-near (c .before .before .before .before .before .before .before .before .before .before .before .before .before .args .s .now) (c .before .before .before .before .before .before .before .before .before .before .before .before .before .args .at) (c .before .before .before .before .before .before .before .before .before .before .before .before .before .args .deep) (c .before .before .before .before .before .before .before .before .before .before .before .before .before .args .left) _ _ _ (due-node (c .before .before .before .before .before .before .before .before .before .before .before .before .before .args .s .now) _ _ _ (c .before .before .before .before .before .before .before .before .before .before .before .node-due .result) (c .before .before .before .before .before .before .before .before .before .before .before .node-due .ensures) _ _ _ (c .before .before .before .before .before .before .before .before .before .kind .given .1)) (c .before .before .before .before .before .before .before .before .before .before .before .before .before .args .ask) (c .before .before .before .before .before .before .before .before .before .before .before .before .before .pre .1 .0)))), c .before .before .before .before .before .before .before .before .before .before .before .before .before .pre .1 .2))
+survey-survey-requires-2 t c κs = (omega (arith, c .before .before .before .before .before .before .before .before .before .before .before .before .before .pre .0, (due-node (c .before .before .before .before .before .before .before .before .before .before .before .before .before .args .s .now) _ _ _ (c .before .before .before .before .before .before .before .before .before .before .before .node-due .result) (c .before .before .before .before .before .before .before .before .before .before .before .node-due .ensures) _ _ _ (c .before .before .before .before .before .before .before .before .before .kind .given .1)) .levels), (rw (c .wide2 .ensures) (few-left (c .before .before .before .before .before .before .before .before .before .before .before .before .before .args .s .now) _ _ _ (c .before .before .before .before .before .before .before .before .before .before .before .before .before .args .ask) (c .before .before .before .before .before .before .survey .result) (c .before .before .before .before .before .before .survey .ensures) _ _ _ (c .before .before .before .before .second .given .1) (omega (arith, c .before .before .before .before .before .before .before .before .before .before .before .before .before .pre .1 .0))), rw (c .before .wide .ensures, c .wide2 .ensures) (near (c .before .before .before .before .before .before .before .before .before .before .before .before .before .args .s .now) _ _ _ (c .before .before .before .before .before .before .before .before .before .before .before .before .before .args .ask) (c .before .before .before .before .before .before .survey .result) (c .before .before .before .before .before .before .survey .ensures) _ _ _ (c .before .before .before .before .second .given .1) (omega (arith, c .before .before .before .before .before .before .before .before .before .before .before .before .before .pre .1 .1, (due-node (c .before .before .before .before .before .before .before .before .before .before .before .before .before .args .s .now) _ _ _ (c .before .before .before .before .before .before .before .before .before .before .before .node-due .result) (c .before .before .before .before .before .before .before .before .before .before .before .node-due .ensures) _ _ _ (c .before .before .before .before .before .before .before .before .before .kind .given .1)) .nodes, next-near (c .before .before .before .before .before .before .before .before .before .before .before .before .before .args .s .now) (c .before .before .before .before .before .before .before .before .before .before .before .before .before .args .at) (c .before .before .before .before .before .before .before .before .before .before .before .before .before .args .deep) (c .before .before .before .before .before .before .before .before .before .before .before .before .before .args .left) _ _ _ (due-node (c .before .before .before .before .before .before .before .before .before .before .before .before .before .args .s .now) _ _ _ (c .before .before .before .before .before .before .before .before .before .before .before .node-due .result) (c .before .before .before .before .before .before .before .before .before .before .before .node-due .ensures) _ _ _ (c .before .before .before .before .before .before .before .before .before .kind .given .1)) (c .before .before .before .before .before .before .before .before .before .before .before .before .before .args .ask) (c .before .before .before .before .before .before .before .before .before .before .before .before .before .pre .1 .0))))))
 
 survey-enum-known-c-3 : (t : ℕ) → survey-lts.Need-enum-known-c-3 (node-due-reads.Asked, node-due-reads.Learnt, narrow-reads.Asked, narrow-reads.Learnt, at-nil-reads.Asked, at-nil-reads.Learnt, survey-below t, survey.Post, at-one-reads.Asked, at-one-reads.Learnt, wide-reads.Asked, wide-reads.Learnt, at-two-reads.Asked, at-two-reads.Learnt) (survey-at t) survey.Post
 survey-enum-known-c-3 t c = search needs

@@ -18,13 +18,13 @@ wide-requires : tie.Need-wide-requires
 wide-requires c κs = search needs
 
 returns : tie.Need-returns
-returns c = looked-trailing (c .before .before .before .before .before .before .before .before .before .args .s .now) (c .before .before .before .before .before .before .before .before .before .args .ask) (c .before .before .before .before .before .survey .result) (c .before .before .before .before .before .survey .ensures) _ _ _ (c .before .before .before .next .given .1) (omega (arith, c .if1 .taken, c .before .wide .ensures))
+returns c = looked-trailing (c .before .before .before .before .before .before .before .args .s .now) (c .before .before .before .before .before .before .before .args .ask) (c .before .before .before .before .before .survey .result) (c .before .before .before .before .before .survey .ensures) _ _ _ (c .before .before .before .next .given .1) (omega (arith, c .if1 .taken, c .before .wide .ensures))
 
 returns-2 : tie.Need-returns-2
-returns-2 c = looked-refused (c .before .before .before .before .before .before .before .args .s .now) (c .before .before .before .before .before .before .before .args .ask) (c .before .before .before .survey .result) (c .before .before .before .survey .ensures) _ (c .before .c .given .1)
+returns-2 c = looked-refused (c .before .before .before .before .before .args .s .now) (c .before .before .before .before .before .args .ask) (c .before .before .before .survey .result) (c .before .before .before .survey .ensures) _ (c .before .c .given .1)
 
 returns-3 : tie.Need-returns-3
-returns-3 c = looked-whole (c .before .before .before .before .before .before .before .before .before .args .s .now) (c .before .before .before .before .before .before .before .before .before .args .ask) (c .before .before .before .before .before .survey .result) (c .before .before .before .before .before .survey .ensures) _ _ _ (c .before .before .before .next .given .1) (omega (arith, c .if1 .left, c .before .wide .ensures))
+returns-3 c = looked-whole (c .before .before .before .before .before .before .before .args .s .now) (c .before .before .before .before .before .before .before .args .ask) (c .before .before .before .before .before .survey .result) (c .before .before .before .before .before .survey .ensures) _ _ _ (c .before .before .before .next .given .1) (omega (arith, c .if1 .left, c .before .wide .ensures))
 
 pub survey-all-spec : {M : Type 1} → statement M
 survey-all-spec =

@@ -22,17 +22,17 @@ use Rattle.undos.proofs.gather.over_two.Reads as over-two-reads
 use Rattle.undos.proofs.gather.+gather.{statement}
 use Rattle.undos.proofs.gather.+gather.Tie.{close}
 
-abbrev μ-gather : Measures 8 gather-kinds.ps ℕ
+abbrev μ-gather : Measures 6 gather-kinds.ps ℕ
 μ-gather κs a = a .1 .1 .0
 
-abbrev gather-at : ℕ → In 8 gather-kinds.ps
-gather-at t = and 8 gather-kinds.ps (is 8 gather-kinds.ps μ-gather t) gather.Pre
+abbrev gather-at : ℕ → In 6 gather-kinds.ps
+gather-at t = and 6 gather-kinds.ps (is 6 gather-kinds.ps μ-gather t) gather.Pre
 
-abbrev gather-below : ℕ → In 8 gather-kinds.ps
-gather-below t = and 8 gather-kinds.ps (falls 8 gather-kinds.ps _<_ μ-gather t) gather.Pre
+abbrev gather-below : ℕ → In 6 gather-kinds.ps
+gather-below t = and 6 gather-kinds.ps (falls 6 gather-kinds.ps _<_ μ-gather t) gather.Pre
 
 gather-node-due-requires : (t : ℕ) → gather-lts.Need-node-due-requires (node-due-reads.Asked, node-due-reads.Learnt, enter-reads.Asked, enter-reads.Learnt, gather-below t, gather.Post, over-prefix-reads.Asked, over-prefix-reads.Learnt, close-reads.Asked, close-reads.Learnt, over-two-reads.Asked, over-two-reads.Learnt) (gather-at t) gather.Post
-gather-node-due-requires t c κs = c .before .pre .1 .0 .2
+gather-node-due-requires t c κs = search needs
 
 gather-enum-known-c : (t : ℕ) → gather-lts.Need-enum-known-c (node-due-reads.Asked, node-due-reads.Learnt, enter-reads.Asked, enter-reads.Learnt, gather-below t, gather.Post, over-prefix-reads.Asked, over-prefix-reads.Learnt, close-reads.Asked, close-reads.Learnt, over-two-reads.Asked, over-two-reads.Learnt) (gather-at t) gather.Post
 gather-enum-known-c t c = search needs
@@ -40,8 +40,8 @@ gather-enum-known-c t c = search needs
 gather-enum-known-kind : (t : ℕ) → gather-lts.Need-enum-known-kind (node-due-reads.Asked, node-due-reads.Learnt, enter-reads.Asked, enter-reads.Learnt, gather-below t, gather.Post, over-prefix-reads.Asked, over-prefix-reads.Learnt, close-reads.Asked, close-reads.Learnt, over-two-reads.Asked, over-two-reads.Learnt) (gather-at t) gather.Post
 gather-enum-known-kind t c = search needs
 
-gather-sub-t34 : (t : ℕ) → gather-lts.Need-sub-t34 (node-due-reads.Asked, node-due-reads.Learnt, enter-reads.Asked, enter-reads.Learnt, gather-below t, gather.Post, over-prefix-reads.Asked, over-prefix-reads.Learnt, close-reads.Asked, close-reads.Learnt, over-two-reads.Asked, over-two-reads.Learnt) (gather-at t) gather.Post
-gather-sub-t34 t c = omega (arith, (due-node (c .before .before .before .before .before .before .args .s .now) _ _ _ (c .before .before .before .before .node-due .result) (c .before .before .before .before .node-due .ensures) _ _ _ (c .before .before .kind .given .1)) .levels, (due-node (c .before .before .before .before .before .before .args .s .now) _ _ _ (c .before .before .before .before .node-due .result) (c .before .before .before .before .node-due .ensures) _ _ _ (c .before .before .kind .given .1)) .nodes)
+gather-sub-t32 : (t : ℕ) → gather-lts.Need-sub-t32 (node-due-reads.Asked, node-due-reads.Learnt, enter-reads.Asked, enter-reads.Learnt, gather-below t, gather.Post, over-prefix-reads.Asked, over-prefix-reads.Learnt, close-reads.Asked, close-reads.Learnt, over-two-reads.Asked, over-two-reads.Learnt) (gather-at t) gather.Post
+gather-sub-t32 t c = omega (arith, (due-node (c .before .before .before .before .before .before .args .s .now) _ _ _ (c .before .before .before .before .node-due .result) (c .before .before .before .before .node-due .ensures) _ _ _ (c .before .before .kind .given .1)) .levels, (due-node (c .before .before .before .before .before .before .args .s .now) _ _ _ (c .before .before .before .before .node-due .result) (c .before .before .before .before .node-due .ensures) _ _ _ (c .before .before .kind .given .1)) .nodes)
 
 gather-returns : (t : ℕ) → gather-lts.Need-returns (node-due-reads.Asked, node-due-reads.Learnt, enter-reads.Asked, enter-reads.Learnt, gather-below t, gather.Post, over-prefix-reads.Asked, over-prefix-reads.Learnt, close-reads.Asked, close-reads.Learnt, over-two-reads.Asked, over-two-reads.Learnt) (gather-at t) gather.Post
 gather-returns t c = let D = due-node (c .before .before .before .before .before .before .args .s .now) _ _ _ (c .before .before .before .before .node-due .result) (c .before .before .before .before .node-due .ensures) _ _ _ (c .before .before .kind .given .1) in gathers-nil (c .before .before .before .before .before .before .args .s .now) (c .before .before .before .before .before .before .args .at) (c .before .before .before .before .before .before .args .deep) (c .before .before .before .before .before .before .args .left) _ _ _ D (c .before .before .before .before .before .before .args .keys) (c .before .before .before .before .before .before .args .lasts) (c .before .before .before .before .before .before .pre .1 .0 .0) _ _ (c .before .before .before .before .before .before .pre .1 .1) (c .if1 .taken)
@@ -59,7 +59,7 @@ gather-sub-gather-2 : (t : ℕ) → gather-lts.Need-sub-gather-2 (node-due-reads
 gather-sub-gather-2 t c = omega (arith, (due-node (c .before .before .before .before .before .before .before .before .before .args .s .now) _ _ _ (c .before .before .before .before .before .before .before .node-due .result) (c .before .before .before .before .before .before .before .node-due .ensures) _ _ _ (c .before .before .before .before .before .kind .given .1)) .levels, (due-node (c .before .before .before .before .before .before .before .before .before .args .s .now) _ _ _ (c .before .before .before .before .before .before .before .node-due .result) (c .before .before .before .before .before .before .before .node-due .ensures) _ _ _ (c .before .before .before .before .before .kind .given .1)) .nodes)
 
 gather-gather-requires : (t : ℕ) → gather-lts.Need-gather-requires (node-due-reads.Asked, node-due-reads.Learnt, enter-reads.Asked, enter-reads.Learnt, gather-below t, gather.Post, over-prefix-reads.Asked, over-prefix-reads.Learnt, close-reads.Asked, close-reads.Learnt, over-two-reads.Asked, over-two-reads.Learnt) (gather-at t) gather.Post
-gather-gather-requires t c κs = let D = due-node (c .before .before .before .before .before .before .before .before .before .before .before .before .before .before .args .s .now) _ _ _ (c .before .before .before .before .before .before .before .before .before .before .before .before .node-due .result) (c .before .before .before .before .before .before .before .before .before .before .before .before .node-due .ensures) _ _ _ (c .before .before .before .before .before .before .before .before .before .before .kind .given .1) in let z = entered (c .before .before .before .before .before .before .before .before .before .before .before .before .before .before .args .s .now) (c .before .before .before .before .before .before .before .before .before .before .before .before .before .before .args .at) (c .before .before .before .before .before .before .before .before .before .before .before .before .before .before .args .deep) (c .before .before .before .before .before .before .before .before .before .before .before .before .before .before .args .left) _ _ _ D (c .before .before .before .before .before .before .before .before .before .before .before .before .before .before .args .keys) (c .before .before .before .before .before .before .before .before .before .before .before .before .before .before .args .lasts) (c .before .before .before .before .before .before .before .before .before .before .before .before .before .before .pre .1 .0 .0) _ _ _ _ _ (c .before .before .before .before .before .enter .result) (c .before .before .before .before .before .enter .ensures) in (omega (arith, c .before .before .before .before .before .before .before .before .before .before .before .before .before .before .pre .0, D .levels), ((z .1, omega (arith, z, c .before .before .before .before .before .before .before .before .before .before .before .before .before .before .pre .1 .0 .0, c .before .before .before .before .before .before .before .before .before .before .before .before .before .before .pre .1 .0 .1), c .before .before .before .before .before .before .before .before .before .before .before .before .before .before .pre .1 .0 .2), (c .before .before .before .before .before .enter .ensures .sizes .1 ∙ c .before .before .before .before .before .before .before .before .before .before .before .before .before .before .pre .1 .1 .0, c .before .before .before .before .before .enter .ensures .sizes .0 ∙ c .before .before .before .before .before .before .before .before .before .before .before .before .before .before .pre .1 .1 .1, c .before .before .before .before .before .before .before .before .before .before .before .before .before .before .pre .1 .1 .2, c .before .before .before .before .before .before .before .before .before .before .before .before .before .before .pre .1 .1 .3, c .before .before .before .before .before .before .before .before .before .before .before .before .before .before .pre .1 .1 .4)))
+gather-gather-requires t c κs = let D = due-node (c .before .before .before .before .before .before .before .before .before .before .before .before .before .before .args .s .now) _ _ _ (c .before .before .before .before .before .before .before .before .before .before .before .before .node-due .result) (c .before .before .before .before .before .before .before .before .before .before .before .before .node-due .ensures) _ _ _ (c .before .before .before .before .before .before .before .before .before .before .kind .given .1) in let z = entered (c .before .before .before .before .before .before .before .before .before .before .before .before .before .before .args .s .now) (c .before .before .before .before .before .before .before .before .before .before .before .before .before .before .args .at) (c .before .before .before .before .before .before .before .before .before .before .before .before .before .before .args .deep) (c .before .before .before .before .before .before .before .before .before .before .before .before .before .before .args .left) _ _ _ D (c .before .before .before .before .before .before .before .before .before .before .before .before .before .before .args .keys) (c .before .before .before .before .before .before .before .before .before .before .before .before .before .before .args .lasts) (c .before .before .before .before .before .before .before .before .before .before .before .before .before .before .pre .1 .0 .0) _ _ _ _ _ (c .before .before .before .before .before .enter .result) (c .before .before .before .before .before .enter .ensures) in (omega (arith, c .before .before .before .before .before .before .before .before .before .before .before .before .before .before .pre .0, D .levels), ((z .1, omega (arith, z, c .before .before .before .before .before .before .before .before .before .before .before .before .before .before .pre .1 .0 .0, c .before .before .before .before .before .before .before .before .before .before .before .before .before .before .pre .1 .0 .1)), (c .before .before .before .before .before .enter .ensures .sizes .1 ∙ c .before .before .before .before .before .before .before .before .before .before .before .before .before .before .pre .1 .1 .0, c .before .before .before .before .before .enter .ensures .sizes .0 ∙ c .before .before .before .before .before .before .before .before .before .before .before .before .before .before .pre .1 .1 .1, c .before .before .before .before .before .before .before .before .before .before .before .before .before .before .pre .1 .1 .2, c .before .before .before .before .before .before .before .before .before .before .before .before .before .before .pre .1 .1 .3, c .before .before .before .before .before .before .before .before .before .before .before .before .before .before .pre .1 .1 .4)))
 
 gather-enum-known-c-2 : (t : ℕ) → gather-lts.Need-enum-known-c-2 (node-due-reads.Asked, node-due-reads.Learnt, enter-reads.Asked, enter-reads.Learnt, gather-below t, gather.Post, over-prefix-reads.Asked, over-prefix-reads.Learnt, close-reads.Asked, close-reads.Learnt, over-two-reads.Asked, over-two-reads.Learnt) (gather-at t) gather.Post
 gather-enum-known-c-2 t c = search needs
@@ -83,7 +83,7 @@ gather-sub-gather-3 : (t : ℕ) → gather-lts.Need-sub-gather-3 (node-due-reads
 gather-sub-gather-3 t c = omega (arith, (due-node (c .before .before .before .before .before .before .before .before .before .before .before .before .before .before .before .before .before .before .before .args .s .now) _ _ _ (c .before .before .before .before .before .before .before .before .before .before .before .before .before .before .before .before .before .node-due .result) (c .before .before .before .before .before .before .before .before .before .before .before .before .before .before .before .before .before .node-due .ensures) _ _ _ (c .before .before .before .before .before .before .before .before .before .before .before .before .before .before .before .kind .given .1)) .levels, (due-node (c .before .before .before .before .before .before .before .before .before .before .before .before .before .before .before .before .before .before .before .args .s .now) _ _ _ (c .before .before .before .before .before .before .before .before .before .before .before .before .before .before .before .before .before .node-due .result) (c .before .before .before .before .before .before .before .before .before .before .before .before .before .before .before .before .before .node-due .ensures) _ _ _ (c .before .before .before .before .before .before .before .before .before .before .before .before .before .before .before .kind .given .1)) .nodes)
 
 gather-gather-requires-2 : (t : ℕ) → gather-lts.Need-gather-requires-2 (node-due-reads.Asked, node-due-reads.Learnt, enter-reads.Asked, enter-reads.Learnt, gather-below t, gather.Post, over-prefix-reads.Asked, over-prefix-reads.Learnt, close-reads.Asked, close-reads.Learnt, over-two-reads.Asked, over-two-reads.Learnt) (gather-at t) gather.Post
-gather-gather-requires-2 t c κs = let D = due-node (c .before .before .before .before .before .before .before .before .before .before .before .before .before .before .before .before .before .before .before .before .before .before .before .before .args .s .now) _ _ _ (c .before .before .before .before .before .before .before .before .before .before .before .before .before .before .before .before .before .before .before .before .before .before .node-due .result) (c .before .before .before .before .before .before .before .before .before .before .before .before .before .before .before .before .before .before .before .before .before .before .node-due .ensures) _ _ _ (c .before .before .before .before .before .before .before .before .before .before .before .before .before .before .before .before .before .before .before .before .kind .given .1) in let z = entered (c .before .before .before .before .before .before .before .before .before .before .before .before .before .before .before .before .before .before .before .before .before .before .before .before .args .s .now) (c .before .before .before .before .before .before .before .before .before .before .before .before .before .before .before .before .before .before .before .before .before .before .before .before .args .at) (c .before .before .before .before .before .before .before .before .before .before .before .before .before .before .before .before .before .before .before .before .before .before .before .before .args .deep) (c .before .before .before .before .before .before .before .before .before .before .before .before .before .before .before .before .before .before .before .before .before .before .before .before .args .left) _ _ _ D (c .before .before .before .before .before .before .before .before .before .before .before .before .before .before .before .before .before .before .before .before .before .before .before .before .args .keys) (c .before .before .before .before .before .before .before .before .before .before .before .before .before .before .before .before .before .before .before .before .before .before .before .before .args .lasts) (c .before .before .before .before .before .before .before .before .before .before .before .before .before .before .before .before .before .before .before .before .before .before .before .before .pre .1 .0 .0) _ _ _ _ _ (c .before .before .before .before .before .before .before .before .before .before .before .before .before .before .before .enter .result) (c .before .before .before .before .before .before .before .before .before .before .before .before .before .before .before .enter .ensures) in let y = room-left (c .before .before .before .before .before .before .before .before .before .before .before .before .before .before .before .before .before .before .before .before .before .before .before .before .args .s .now) _ _ _ _ _ _ (arrays (c .before .before .before .before .before .before .before .before .before .gather .last .1 .1 .1 .1 .1 .1 .1 .1 .1 .1 .0) (c .before .before .before .before .before .before .before .before .before .gather .last .1 .1 .1 .1 .1 .1 .0) (rows (c .before .before .before .before .before .before .before .before .before .gather .last .1 .1 .1 .1 .1 .1 .1 .0) (c .before .before .before .before .before .before .before .before .before .gather .last .1 .1 .1 .1 .1 .1 .1 .1 .0) (c .before .before .before .before .before .before .before .before .before .gather .last .1 .1 .1 .1 .1 .1 .1 .1 .1 .0))) (Sized (c .before .before .before .before .before .before .before .before .before .gather .last .1 .1 .1 .1 .1 .1 .1 .1 .1 .1 .0) (c .before .before .before .before .before .before .before .before .before .gather .last .1 .1 .1 .1 .1 .1 .0) (c .before .before .before .before .before .before .before .before .before .gather .last .1 .1 .1 .1 .1 .1 .1 .0) (c .before .before .before .before .before .before .before .before .before .gather .last .1 .1 .1 .1 .1 .1 .1 .1 .0) (c .before .before .before .before .before .before .before .before .before .gather .last .1 .1 .1 .1 .1 .1 .1 .1 .1 .0)) (c .before .before .before .before .before .before .before .before .before .gather .result) (c .before .before .before .before .before .before .before .before .before .gather .ensures) _ _ _ _ (c .before .before .before .before .before .before .before .second .given .1) (z .1) (omega (arith, z, c .before .before .before .before .before .before .before .before .before .before .before .before .before .before .before .before .before .before .before .before .before .before .before .before .pre .1 .0)) in (falls-again _ _ (c .before .before .before .before .before .before .before .before .before .before .before .before .before .before .before .before .before .before .before .before .before .before .before .before .pre .0) (D .levels), ((y .0, y .1, c .before .before .before .before .before .before .before .before .before .before .before .before .before .before .before .before .before .before .before .before .before .before .before .before .pre .1 .0 .2), child-whole (c .before .before .before .before .before .before .before .before .before .before .before .before .before .before .before .before .before .before .before .before .before .before .before .before .args .s .now) (c .before .before .before .before .before .before .before .before .before .before .before .before .before .before .before .before .before .before .before .before .before .before .before .before .args .at) (c .before .before .before .before .before .before .before .before .before .before .before .before .before .before .before .before .before .before .before .before .before .before .before .before .args .deep) (c .before .before .before .before .before .before .before .before .before .before .before .before .before .before .before .before .before .before .before .before .before .before .before .before .args .left) _ _ _ D (c .before .before .before .before .before .before .before .before .before .before .before .before .before .before .before .before .before .before .before .before .before .before .before .before .args .keys) (c .before .before .before .before .before .before .before .before .before .before .before .before .before .before .before .before .before .before .before .before .before .before .before .before .args .lasts) (c .before .before .before .before .before .before .before .before .before .before .before .before .before .before .before .before .before .before .before .before .before .before .before .before .pre .1 .0 .0) (c .before .before .before .before .before .before .before .before .before .before .before .before .before .before .before .before .before .before .before .before .before .before .before .before .args .scopes .now) (c .before .before .before .before .before .before .before .before .before .before .before .before .before .before .before .enter .last .1 .1 .1 .1 .1 .1 .0) (c .before .before .before .before .before .before .before .before .before .before .before .before .before .before .before .before .before .before .before .before .before .before .before .before .args .all .now) (c .before .before .before .before .before .before .before .before .before .before .before .before .before .before .before .enter .last .1 .1 .1 .1 .1 .0) (rows (c .before .before .before .before .before .before .before .before .before .before .before .before .before .before .before .before .before .before .before .before .before .before .before .before .args .key .now) (c .before .before .before .before .before .before .before .before .before .before .before .before .before .before .before .before .before .before .before .before .before .before .before .before .args .action .now) (c .before .before .before .before .before .before .before .before .before .before .before .before .before .before .before .before .before .before .before .before .before .before .before .before .args .scope .now)) (c .before .before .before .before .before .before .before .before .before .before .before .before .before .before .before .enter .result) (c .before .before .before .before .before .before .before .before .before .before .before .before .before .before .before .enter .ensures) (arrays (c .before .before .before .before .before .before .before .before .before .gather .last .1 .1 .1 .1 .1 .1 .1 .1 .1 .1 .0) (c .before .before .before .before .before .before .before .before .before .gather .last .1 .1 .1 .1 .1 .1 .0) (rows (c .before .before .before .before .before .before .before .before .before .gather .last .1 .1 .1 .1 .1 .1 .1 .0) (c .before .before .before .before .before .before .before .before .before .gather .last .1 .1 .1 .1 .1 .1 .1 .1 .0) (c .before .before .before .before .before .before .before .before .before .gather .last .1 .1 .1 .1 .1 .1 .1 .1 .1 .0))) (Sized (c .before .before .before .before .before .before .before .before .before .gather .last .1 .1 .1 .1 .1 .1 .1 .1 .1 .1 .0) (c .before .before .before .before .before .before .before .before .before .gather .last .1 .1 .1 .1 .1 .1 .0) (c .before .before .before .before .before .before .before .before .before .gather .last .1 .1 .1 .1 .1 .1 .1 .0) (c .before .before .before .before .before .before .before .before .before .gather .last .1 .1 .1 .1 .1 .1 .1 .1 .0) (c .before .before .before .before .before .before .before .before .before .gather .last .1 .1 .1 .1 .1 .1 .1 .1 .1 .0)) (c .before .before .before .before .before .before .before .before .before .gather .result) (c .before .before .before .before .before .before .before .before .before .gather .ensures) _ _ _ _ (c .before .before .before .before .before .before .before .second .given .1) (few-rows (c .before .before .before .before .before .before .before .before .before .before .before .before .before .before .before .before .before .before .before .before .before .before .before .before .args .lasts) _ _ _ (c .before .before .before .before .before .before .before .before .before .before .before .before .before .before .before .before .before .before .before .before .before .before .before .before .pre .1 .1 .2) (c .before .before .before .before .before .before .before .before .before .before .before .before .before .before .before .before .before .before .before .before .before .before .before .before .pre .1 .1 .3) (c .before .before .before .before .before .before .before .before .before .before .before .before .before .before .before .before .before .before .before .before .before .before .before .before .pre .1 .1 .4) (omega (arith, c .before .before .before .before .before .before .before .before .before .before .before .before .before .before .before .before .before .before .before .before .before .before .before .before .pre .1 .0)))))
+gather-gather-requires-2 t c κs = let D = due-node (c .before .before .before .before .before .before .before .before .before .before .before .before .before .before .before .before .before .before .before .before .before .before .before .before .args .s .now) _ _ _ (c .before .before .before .before .before .before .before .before .before .before .before .before .before .before .before .before .before .before .before .before .before .before .node-due .result) (c .before .before .before .before .before .before .before .before .before .before .before .before .before .before .before .before .before .before .before .before .before .before .node-due .ensures) _ _ _ (c .before .before .before .before .before .before .before .before .before .before .before .before .before .before .before .before .before .before .before .before .kind .given .1) in let z = entered (c .before .before .before .before .before .before .before .before .before .before .before .before .before .before .before .before .before .before .before .before .before .before .before .before .args .s .now) (c .before .before .before .before .before .before .before .before .before .before .before .before .before .before .before .before .before .before .before .before .before .before .before .before .args .at) (c .before .before .before .before .before .before .before .before .before .before .before .before .before .before .before .before .before .before .before .before .before .before .before .before .args .deep) (c .before .before .before .before .before .before .before .before .before .before .before .before .before .before .before .before .before .before .before .before .before .before .before .before .args .left) _ _ _ D (c .before .before .before .before .before .before .before .before .before .before .before .before .before .before .before .before .before .before .before .before .before .before .before .before .args .keys) (c .before .before .before .before .before .before .before .before .before .before .before .before .before .before .before .before .before .before .before .before .before .before .before .before .args .lasts) (c .before .before .before .before .before .before .before .before .before .before .before .before .before .before .before .before .before .before .before .before .before .before .before .before .pre .1 .0 .0) _ _ _ _ _ (c .before .before .before .before .before .before .before .before .before .before .before .before .before .before .before .enter .result) (c .before .before .before .before .before .before .before .before .before .before .before .before .before .before .before .enter .ensures) in let y = room-left (c .before .before .before .before .before .before .before .before .before .before .before .before .before .before .before .before .before .before .before .before .before .before .before .before .args .s .now) _ _ _ _ _ _ (arrays (c .before .before .before .before .before .before .before .before .before .gather .last .1 .1 .1 .1 .1 .1 .1 .1 .1 .1 .0) (c .before .before .before .before .before .before .before .before .before .gather .last .1 .1 .1 .1 .1 .1 .0) (rows (c .before .before .before .before .before .before .before .before .before .gather .last .1 .1 .1 .1 .1 .1 .1 .0) (c .before .before .before .before .before .before .before .before .before .gather .last .1 .1 .1 .1 .1 .1 .1 .1 .0) (c .before .before .before .before .before .before .before .before .before .gather .last .1 .1 .1 .1 .1 .1 .1 .1 .1 .0))) (Sized (c .before .before .before .before .before .before .before .before .before .gather .last .1 .1 .1 .1 .1 .1 .1 .1 .1 .1 .0) (c .before .before .before .before .before .before .before .before .before .gather .last .1 .1 .1 .1 .1 .1 .0) (c .before .before .before .before .before .before .before .before .before .gather .last .1 .1 .1 .1 .1 .1 .1 .0) (c .before .before .before .before .before .before .before .before .before .gather .last .1 .1 .1 .1 .1 .1 .1 .1 .0) (c .before .before .before .before .before .before .before .before .before .gather .last .1 .1 .1 .1 .1 .1 .1 .1 .1 .0)) (c .before .before .before .before .before .before .before .before .before .gather .result) (c .before .before .before .before .before .before .before .before .before .gather .ensures) _ _ _ _ (c .before .before .before .before .before .before .before .second .given .1) (z .1) (omega (arith, z, c .before .before .before .before .before .before .before .before .before .before .before .before .before .before .before .before .before .before .before .before .before .before .before .before .pre .1 .0)) in (falls-again _ _ (c .before .before .before .before .before .before .before .before .before .before .before .before .before .before .before .before .before .before .before .before .before .before .before .before .pre .0) (D .levels), ((y .0, y .1), child-whole (c .before .before .before .before .before .before .before .before .before .before .before .before .before .before .before .before .before .before .before .before .before .before .before .before .args .s .now) (c .before .before .before .before .before .before .before .before .before .before .before .before .before .before .before .before .before .before .before .before .before .before .before .before .args .at) (c .before .before .before .before .before .before .before .before .before .before .before .before .before .before .before .before .before .before .before .before .before .before .before .before .args .deep) (c .before .before .before .before .before .before .before .before .before .before .before .before .before .before .before .before .before .before .before .before .before .before .before .before .args .left) _ _ _ D (c .before .before .before .before .before .before .before .before .before .before .before .before .before .before .before .before .before .before .before .before .before .before .before .before .args .keys) (c .before .before .before .before .before .before .before .before .before .before .before .before .before .before .before .before .before .before .before .before .before .before .before .before .args .lasts) (c .before .before .before .before .before .before .before .before .before .before .before .before .before .before .before .before .before .before .before .before .before .before .before .before .pre .1 .0 .0) (c .before .before .before .before .before .before .before .before .before .before .before .before .before .before .before .before .before .before .before .before .before .before .before .before .args .scopes .now) (c .before .before .before .before .before .before .before .before .before .before .before .before .before .before .before .enter .last .1 .1 .1 .1 .1 .1 .0) (c .before .before .before .before .before .before .before .before .before .before .before .before .before .before .before .before .before .before .before .before .before .before .before .before .args .all .now) (c .before .before .before .before .before .before .before .before .before .before .before .before .before .before .before .enter .last .1 .1 .1 .1 .1 .0) (rows (c .before .before .before .before .before .before .before .before .before .before .before .before .before .before .before .before .before .before .before .before .before .before .before .before .args .key .now) (c .before .before .before .before .before .before .before .before .before .before .before .before .before .before .before .before .before .before .before .before .before .before .before .before .args .action .now) (c .before .before .before .before .before .before .before .before .before .before .before .before .before .before .before .before .before .before .before .before .before .before .before .before .args .scope .now)) (c .before .before .before .before .before .before .before .before .before .before .before .before .before .before .before .enter .result) (c .before .before .before .before .before .before .before .before .before .before .before .before .before .before .before .enter .ensures) (arrays (c .before .before .before .before .before .before .before .before .before .gather .last .1 .1 .1 .1 .1 .1 .1 .1 .1 .1 .0) (c .before .before .before .before .before .before .before .before .before .gather .last .1 .1 .1 .1 .1 .1 .0) (rows (c .before .before .before .before .before .before .before .before .before .gather .last .1 .1 .1 .1 .1 .1 .1 .0) (c .before .before .before .before .before .before .before .before .before .gather .last .1 .1 .1 .1 .1 .1 .1 .1 .0) (c .before .before .before .before .before .before .before .before .before .gather .last .1 .1 .1 .1 .1 .1 .1 .1 .1 .0))) (Sized (c .before .before .before .before .before .before .before .before .before .gather .last .1 .1 .1 .1 .1 .1 .1 .1 .1 .1 .0) (c .before .before .before .before .before .before .before .before .before .gather .last .1 .1 .1 .1 .1 .1 .0) (c .before .before .before .before .before .before .before .before .before .gather .last .1 .1 .1 .1 .1 .1 .1 .0) (c .before .before .before .before .before .before .before .before .before .gather .last .1 .1 .1 .1 .1 .1 .1 .1 .0) (c .before .before .before .before .before .before .before .before .before .gather .last .1 .1 .1 .1 .1 .1 .1 .1 .1 .0)) (c .before .before .before .before .before .before .before .before .before .gather .result) (c .before .before .before .before .before .before .before .before .before .gather .ensures) _ _ _ _ (c .before .before .before .before .before .before .before .second .given .1) (few-rows (c .before .before .before .before .before .before .before .before .before .before .before .before .before .before .before .before .before .before .before .before .before .before .before .before .args .lasts) _ _ _ (c .before .before .before .before .before .before .before .before .before .before .before .before .before .before .before .before .before .before .before .before .before .before .before .before .pre .1 .1 .2) (c .before .before .before .before .before .before .before .before .before .before .before .before .before .before .before .before .before .before .before .before .before .before .before .before .pre .1 .1 .3) (c .before .before .before .before .before .before .before .before .before .before .before .before .before .before .before .before .before .before .before .before .before .before .before .before .pre .1 .1 .4) (omega (arith, c .before .before .before .before .before .before .before .before .before .before .before .before .before .before .before .before .before .before .before .before .before .before .before .before .pre .1 .0)))))
 
 gather-enum-known-c-3 : (t : ℕ) → gather-lts.Need-enum-known-c-3 (node-due-reads.Asked, node-due-reads.Learnt, enter-reads.Asked, enter-reads.Learnt, gather-below t, gather.Post, over-prefix-reads.Asked, over-prefix-reads.Learnt, close-reads.Asked, close-reads.Learnt, over-two-reads.Asked, over-two-reads.Learnt) (gather-at t) gather.Post
 gather-enum-known-c-3 t c = search needs
@@ -113,7 +113,7 @@ pub +gather-spec : {M : Type 1} → statement M
     (gather-node-due-requires t)
     (gather-enum-known-c t)
     (gather-enum-known-kind t)
-    (gather-sub-t34 t)
+    (gather-sub-t32 t)
     (gather-returns t)
     (gather-sub-enter t)
     (gather-enter-requires t)

@@ -20,19 +20,19 @@ enum-known-next : tie.Need-enum-known-next
 enum-known-next c = search needs
 
 returns : tie.Need-returns
-returns c = listing-trailing (c .before .before .before .before .before .before .before .before .before .before .before .before .before .before .args .bytes .now) (slice-bytes (c .before .before .before .before .before .before .before .before .before .before .before .before .before .before .args .bytes .now) (λ i. omega (arith, c .before .before .before .before .before .before .before .before .before .before .before .before .before .shared-slice-known .given i))) (arrays (replicate 128 0) (replicate 4096 0) (rows (replicate 4096 0) (replicate 4096 0) (replicate 4096 0))) (arrays (c .before .before .before .before .gather .last .1 .1 .1 .1 .1 .1 .1 .1 .1 .1 .0) (c .before .before .before .before .gather .last .1 .1 .1 .1 .1 .1 .0) (rows (c .before .before .before .before .gather .last .1 .1 .1 .1 .1 .1 .1 .0) (c .before .before .before .before .gather .last .1 .1 .1 .1 .1 .1 .1 .1 .0) (c .before .before .before .before .gather .last .1 .1 .1 .1 .1 .1 .1 .1 .1 .0))) (Sized (c .before .before .before .before .gather .last .1 .1 .1 .1 .1 .1 .1 .1 .1 .1 .0) (c .before .before .before .before .gather .last .1 .1 .1 .1 .1 .1 .0) (c .before .before .before .before .gather .last .1 .1 .1 .1 .1 .1 .1 .0) (c .before .before .before .before .gather .last .1 .1 .1 .1 .1 .1 .1 .1 .0) (c .before .before .before .before .gather .last .1 .1 .1 .1 .1 .1 .1 .1 .1 .0)) (c .before .before .before .before .gather .result) (c .before .before .before .before .gather .ensures) (c .before .before .before .before .before .before .before .before .before .before .before .before .before .before .args .row .now) _ _ _ _ (c .before .before .next .given .1) (c .if1 .taken)
+returns c = listing-trailing (c .before .before .before .before .before .before .before .before .before .before .before .before .args .bytes .now) (slice-bytes (c .before .before .before .before .before .before .before .before .before .before .before .before .args .bytes .now) (λ i. omega (arith, c .before .before .before .before .before .before .before .before .before .before .before .shared-slice-known .given i))) (arrays (replicate 128 0) (replicate 4096 0) (rows (replicate 4096 0) (replicate 4096 0) (replicate 4096 0))) (arrays (c .before .before .before .before .gather .last .1 .1 .1 .1 .1 .1 .1 .1 .1 .1 .0) (c .before .before .before .before .gather .last .1 .1 .1 .1 .1 .1 .0) (rows (c .before .before .before .before .gather .last .1 .1 .1 .1 .1 .1 .1 .0) (c .before .before .before .before .gather .last .1 .1 .1 .1 .1 .1 .1 .1 .0) (c .before .before .before .before .gather .last .1 .1 .1 .1 .1 .1 .1 .1 .1 .0))) (Sized (c .before .before .before .before .gather .last .1 .1 .1 .1 .1 .1 .1 .1 .1 .1 .0) (c .before .before .before .before .gather .last .1 .1 .1 .1 .1 .1 .0) (c .before .before .before .before .gather .last .1 .1 .1 .1 .1 .1 .1 .0) (c .before .before .before .before .gather .last .1 .1 .1 .1 .1 .1 .1 .1 .0) (c .before .before .before .before .gather .last .1 .1 .1 .1 .1 .1 .1 .1 .1 .0)) (c .before .before .before .before .gather .result) (c .before .before .before .before .gather .ensures) (c .before .before .before .before .before .before .before .before .before .before .before .before .args .row .now) _ _ _ _ (c .before .before .next .given .1) (c .if1 .taken)
 
 list-requires : tie.Need-list-requires
-list-requires c κs = let z = all-whole (c .before .before .before .before .before .before .before .before .before .before .before .before .before .before .before .before .before .before .before .args .bytes .now) (slice-bytes (c .before .before .before .before .before .before .before .before .before .before .before .before .before .before .before .before .before .before .before .args .bytes .now) (λ i. omega (arith, c .before .before .before .before .before .before .before .before .before .before .before .before .before .before .before .before .before .before .shared-slice-known .given i))) (arrays (replicate 128 0) (replicate 4096 0) (rows (replicate 4096 0) (replicate 4096 0) (replicate 4096 0))) (arrays (c .before .before .before .before .before .before .before .before .before .gather .last .1 .1 .1 .1 .1 .1 .1 .1 .1 .1 .0) (c .before .before .before .before .before .before .before .before .before .gather .last .1 .1 .1 .1 .1 .1 .0) (rows (c .before .before .before .before .before .before .before .before .before .gather .last .1 .1 .1 .1 .1 .1 .1 .0) (c .before .before .before .before .before .before .before .before .before .gather .last .1 .1 .1 .1 .1 .1 .1 .1 .0) (c .before .before .before .before .before .before .before .before .before .gather .last .1 .1 .1 .1 .1 .1 .1 .1 .1 .0))) (Sized (c .before .before .before .before .before .before .before .before .before .gather .last .1 .1 .1 .1 .1 .1 .1 .1 .1 .1 .0) (c .before .before .before .before .before .before .before .before .before .gather .last .1 .1 .1 .1 .1 .1 .0) (c .before .before .before .before .before .before .before .before .before .gather .last .1 .1 .1 .1 .1 .1 .1 .0) (c .before .before .before .before .before .before .before .before .before .gather .last .1 .1 .1 .1 .1 .1 .1 .1 .0) (c .before .before .before .before .before .before .before .before .before .gather .last .1 .1 .1 .1 .1 .1 .1 .1 .1 .0)) (c .before .before .before .before .before .before .before .before .before .gather .result) (c .before .before .before .before .before .before .before .before .before .gather .ensures) (c .before .before .before .before .before .before .before .before .before .before .before .before .before .before .before .before .before .before .before .args .row .now) _ _ _ _ (c .before .before .before .before .before .before .before .next .given .1) in let n = counts-within (c .before .before .before .before .before .before .before .before .before .before .before .before .before .before .before .before .before .before .before .args .bytes .now) (slice-bytes (c .before .before .before .before .before .before .before .before .before .before .before .before .before .before .before .before .before .before .before .args .bytes .now) (λ i. omega (arith, c .before .before .before .before .before .before .before .before .before .before .before .before .before .before .before .before .before .before .shared-slice-known .given i))) (arrays (replicate 128 0) (replicate 4096 0) (rows (replicate 4096 0) (replicate 4096 0) (replicate 4096 0))) (arrays (c .before .before .before .before .before .before .before .before .before .gather .last .1 .1 .1 .1 .1 .1 .1 .1 .1 .1 .0) (c .before .before .before .before .before .before .before .before .before .gather .last .1 .1 .1 .1 .1 .1 .0) (rows (c .before .before .before .before .before .before .before .before .before .gather .last .1 .1 .1 .1 .1 .1 .1 .0) (c .before .before .before .before .before .before .before .before .before .gather .last .1 .1 .1 .1 .1 .1 .1 .1 .0) (c .before .before .before .before .before .before .before .before .before .gather .last .1 .1 .1 .1 .1 .1 .1 .1 .1 .0))) (Sized (c .before .before .before .before .before .before .before .before .before .gather .last .1 .1 .1 .1 .1 .1 .1 .1 .1 .1 .0) (c .before .before .before .before .before .before .before .before .before .gather .last .1 .1 .1 .1 .1 .1 .0) (c .before .before .before .before .before .before .before .before .before .gather .last .1 .1 .1 .1 .1 .1 .1 .0) (c .before .before .before .before .before .before .before .before .before .gather .last .1 .1 .1 .1 .1 .1 .1 .1 .0) (c .before .before .before .before .before .before .before .before .before .gather .last .1 .1 .1 .1 .1 .1 .1 .1 .1 .0)) (c .before .before .before .before .before .before .before .before .before .gather .result) (c .before .before .before .before .before .before .before .before .before .gather .ensures) (c .before .before .before .before .before .before .before .before .before .before .before .before .before .before .before .before .before .before .before .args .row .now) _ _ _ _ (c .before .before .before .before .before .before .before .next .given .1) in ((z .1, n .0, keys-small (c .before .before .before .before .before .before .before .before .before .before .before .before .before .before .before .before .before .before .before .args .bytes .now) (slice-bytes (c .before .before .before .before .before .before .before .before .before .before .before .before .before .before .before .before .before .before .before .args .bytes .now) (λ i. omega (arith, c .before .before .before .before .before .before .before .before .before .before .before .before .before .before .before .before .before .before .shared-slice-known .given i))) (arrays (replicate 128 0) (replicate 4096 0) (rows (replicate 4096 0) (replicate 4096 0) (replicate 4096 0))) (arrays (c .before .before .before .before .before .before .before .before .before .gather .last .1 .1 .1 .1 .1 .1 .1 .1 .1 .1 .0) (c .before .before .before .before .before .before .before .before .before .gather .last .1 .1 .1 .1 .1 .1 .0) (rows (c .before .before .before .before .before .before .before .before .before .gather .last .1 .1 .1 .1 .1 .1 .1 .0) (c .before .before .before .before .before .before .before .before .before .gather .last .1 .1 .1 .1 .1 .1 .1 .1 .0) (c .before .before .before .before .before .before .before .before .before .gather .last .1 .1 .1 .1 .1 .1 .1 .1 .1 .0))) (Sized (c .before .before .before .before .before .before .before .before .before .gather .last .1 .1 .1 .1 .1 .1 .1 .1 .1 .1 .0) (c .before .before .before .before .before .before .before .before .before .gather .last .1 .1 .1 .1 .1 .1 .0) (c .before .before .before .before .before .before .before .before .before .gather .last .1 .1 .1 .1 .1 .1 .1 .0) (c .before .before .before .before .before .before .before .before .before .gather .last .1 .1 .1 .1 .1 .1 .1 .1 .0) (c .before .before .before .before .before .before .before .before .before .gather .last .1 .1 .1 .1 .1 .1 .1 .1 .1 .0)) (c .before .before .before .before .before .before .before .before .before .gather .result) (c .before .before .before .before .before .before .before .before .before .gather .ensures) (c .before .before .before .before .before .before .before .before .before .before .before .before .before .before .before .before .before .before .before .args .row .now) _ _ _ _ (c .before .before .before .before .before .before .before .next .given .1) refl (c .before .before .before .before .before .if1 .left), keys-positive (c .before .before .before .before .before .before .before .before .before .before .before .before .before .before .before .before .before .before .before .args .bytes .now) (slice-bytes (c .before .before .before .before .before .before .before .before .before .before .before .before .before .before .before .before .before .before .before .args .bytes .now) (λ i. omega (arith, c .before .before .before .before .before .before .before .before .before .before .before .before .before .before .before .before .before .before .shared-slice-known .given i))) (arrays (replicate 128 0) (replicate 4096 0) (rows (replicate 4096 0) (replicate 4096 0) (replicate 4096 0))) (arrays (c .before .before .before .before .before .before .before .before .before .gather .last .1 .1 .1 .1 .1 .1 .1 .1 .1 .1 .0) (c .before .before .before .before .before .before .before .before .before .gather .last .1 .1 .1 .1 .1 .1 .0) (rows (c .before .before .before .before .before .before .before .before .before .gather .last .1 .1 .1 .1 .1 .1 .1 .0) (c .before .before .before .before .before .before .before .before .before .gather .last .1 .1 .1 .1 .1 .1 .1 .1 .0) (c .before .before .before .before .before .before .before .before .before .gather .last .1 .1 .1 .1 .1 .1 .1 .1 .1 .0))) (Sized (c .before .before .before .before .before .before .before .before .before .gather .last .1 .1 .1 .1 .1 .1 .1 .1 .1 .1 .0) (c .before .before .before .before .before .before .before .before .before .gather .last .1 .1 .1 .1 .1 .1 .0) (c .before .before .before .before .before .before .before .before .before .gather .last .1 .1 .1 .1 .1 .1 .1 .0) (c .before .before .before .before .before .before .before .before .before .gather .last .1 .1 .1 .1 .1 .1 .1 .1 .0) (c .before .before .before .before .before .before .before .before .before .gather .last .1 .1 .1 .1 .1 .1 .1 .1 .1 .0)) (c .before .before .before .before .before .before .before .before .before .gather .result) (c .before .before .before .before .before .before .before .before .before .gather .ensures) (c .before .before .before .before .before .before .before .before .before .before .before .before .before .before .before .before .before .before .before .args .row .now) _ _ _ _ (c .before .before .before .before .before .before .before .next .given .1) refl (c .before .before .before .before .before .if1 .left)), (z .2, z .3, z .4, n .1, keys-among (c .before .before .before .before .before .before .before .before .before .before .before .before .before .before .before .before .before .before .before .args .bytes .now) (slice-bytes (c .before .before .before .before .before .before .before .before .before .before .before .before .before .before .before .before .before .before .before .args .bytes .now) (λ i. omega (arith, c .before .before .before .before .before .before .before .before .before .before .before .before .before .before .before .before .before .before .shared-slice-known .given i))) (arrays (replicate 128 0) (replicate 4096 0) (rows (replicate 4096 0) (replicate 4096 0) (replicate 4096 0))) (arrays (c .before .before .before .before .before .before .before .before .before .gather .last .1 .1 .1 .1 .1 .1 .1 .1 .1 .1 .0) (c .before .before .before .before .before .before .before .before .before .gather .last .1 .1 .1 .1 .1 .1 .0) (rows (c .before .before .before .before .before .before .before .before .before .gather .last .1 .1 .1 .1 .1 .1 .1 .0) (c .before .before .before .before .before .before .before .before .before .gather .last .1 .1 .1 .1 .1 .1 .1 .1 .0) (c .before .before .before .before .before .before .before .before .before .gather .last .1 .1 .1 .1 .1 .1 .1 .1 .1 .0))) (Sized (c .before .before .before .before .before .before .before .before .before .gather .last .1 .1 .1 .1 .1 .1 .1 .1 .1 .1 .0) (c .before .before .before .before .before .before .before .before .before .gather .last .1 .1 .1 .1 .1 .1 .0) (c .before .before .before .before .before .before .before .before .before .gather .last .1 .1 .1 .1 .1 .1 .1 .0) (c .before .before .before .before .before .before .before .before .before .gather .last .1 .1 .1 .1 .1 .1 .1 .1 .0) (c .before .before .before .before .before .before .before .before .before .gather .last .1 .1 .1 .1 .1 .1 .1 .1 .1 .0)) (c .before .before .before .before .before .before .before .before .before .gather .result) (c .before .before .before .before .before .before .before .before .before .gather .ensures) (c .before .before .before .before .before .before .before .before .before .before .before .before .before .before .before .before .before .before .before .args .row .now) _ _ _ _ (c .before .before .before .before .before .before .before .next .given .1) refl (c .before .before .before .before .before .if1 .left)))
+list-requires c κs = let z = all-whole (c .before .before .before .before .before .before .before .before .before .before .before .before .before .before .before .before .before .args .bytes .now) (slice-bytes (c .before .before .before .before .before .before .before .before .before .before .before .before .before .before .before .before .before .args .bytes .now) (λ i. omega (arith, c .before .before .before .before .before .before .before .before .before .before .before .before .before .before .before .before .shared-slice-known .given i))) (arrays (replicate 128 0) (replicate 4096 0) (rows (replicate 4096 0) (replicate 4096 0) (replicate 4096 0))) (arrays (c .before .before .before .before .before .before .before .before .before .gather .last .1 .1 .1 .1 .1 .1 .1 .1 .1 .1 .0) (c .before .before .before .before .before .before .before .before .before .gather .last .1 .1 .1 .1 .1 .1 .0) (rows (c .before .before .before .before .before .before .before .before .before .gather .last .1 .1 .1 .1 .1 .1 .1 .0) (c .before .before .before .before .before .before .before .before .before .gather .last .1 .1 .1 .1 .1 .1 .1 .1 .0) (c .before .before .before .before .before .before .before .before .before .gather .last .1 .1 .1 .1 .1 .1 .1 .1 .1 .0))) (Sized (c .before .before .before .before .before .before .before .before .before .gather .last .1 .1 .1 .1 .1 .1 .1 .1 .1 .1 .0) (c .before .before .before .before .before .before .before .before .before .gather .last .1 .1 .1 .1 .1 .1 .0) (c .before .before .before .before .before .before .before .before .before .gather .last .1 .1 .1 .1 .1 .1 .1 .0) (c .before .before .before .before .before .before .before .before .before .gather .last .1 .1 .1 .1 .1 .1 .1 .1 .0) (c .before .before .before .before .before .before .before .before .before .gather .last .1 .1 .1 .1 .1 .1 .1 .1 .1 .0)) (c .before .before .before .before .before .before .before .before .before .gather .result) (c .before .before .before .before .before .before .before .before .before .gather .ensures) (c .before .before .before .before .before .before .before .before .before .before .before .before .before .before .before .before .before .args .row .now) _ _ _ _ (c .before .before .before .before .before .before .before .next .given .1) in let n = counts-within (c .before .before .before .before .before .before .before .before .before .before .before .before .before .before .before .before .before .args .bytes .now) (slice-bytes (c .before .before .before .before .before .before .before .before .before .before .before .before .before .before .before .before .before .args .bytes .now) (λ i. omega (arith, c .before .before .before .before .before .before .before .before .before .before .before .before .before .before .before .before .shared-slice-known .given i))) (arrays (replicate 128 0) (replicate 4096 0) (rows (replicate 4096 0) (replicate 4096 0) (replicate 4096 0))) (arrays (c .before .before .before .before .before .before .before .before .before .gather .last .1 .1 .1 .1 .1 .1 .1 .1 .1 .1 .0) (c .before .before .before .before .before .before .before .before .before .gather .last .1 .1 .1 .1 .1 .1 .0) (rows (c .before .before .before .before .before .before .before .before .before .gather .last .1 .1 .1 .1 .1 .1 .1 .0) (c .before .before .before .before .before .before .before .before .before .gather .last .1 .1 .1 .1 .1 .1 .1 .1 .0) (c .before .before .before .before .before .before .before .before .before .gather .last .1 .1 .1 .1 .1 .1 .1 .1 .1 .0))) (Sized (c .before .before .before .before .before .before .before .before .before .gather .last .1 .1 .1 .1 .1 .1 .1 .1 .1 .1 .0) (c .before .before .before .before .before .before .before .before .before .gather .last .1 .1 .1 .1 .1 .1 .0) (c .before .before .before .before .before .before .before .before .before .gather .last .1 .1 .1 .1 .1 .1 .1 .0) (c .before .before .before .before .before .before .before .before .before .gather .last .1 .1 .1 .1 .1 .1 .1 .1 .0) (c .before .before .before .before .before .before .before .before .before .gather .last .1 .1 .1 .1 .1 .1 .1 .1 .1 .0)) (c .before .before .before .before .before .before .before .before .before .gather .result) (c .before .before .before .before .before .before .before .before .before .gather .ensures) (c .before .before .before .before .before .before .before .before .before .before .before .before .before .before .before .before .before .args .row .now) _ _ _ _ (c .before .before .before .before .before .before .before .next .given .1) in ((z .1, n .0, keys-small (c .before .before .before .before .before .before .before .before .before .before .before .before .before .before .before .before .before .args .bytes .now) (slice-bytes (c .before .before .before .before .before .before .before .before .before .before .before .before .before .before .before .before .before .args .bytes .now) (λ i. omega (arith, c .before .before .before .before .before .before .before .before .before .before .before .before .before .before .before .before .shared-slice-known .given i))) (arrays (replicate 128 0) (replicate 4096 0) (rows (replicate 4096 0) (replicate 4096 0) (replicate 4096 0))) (arrays (c .before .before .before .before .before .before .before .before .before .gather .last .1 .1 .1 .1 .1 .1 .1 .1 .1 .1 .0) (c .before .before .before .before .before .before .before .before .before .gather .last .1 .1 .1 .1 .1 .1 .0) (rows (c .before .before .before .before .before .before .before .before .before .gather .last .1 .1 .1 .1 .1 .1 .1 .0) (c .before .before .before .before .before .before .before .before .before .gather .last .1 .1 .1 .1 .1 .1 .1 .1 .0) (c .before .before .before .before .before .before .before .before .before .gather .last .1 .1 .1 .1 .1 .1 .1 .1 .1 .0))) (Sized (c .before .before .before .before .before .before .before .before .before .gather .last .1 .1 .1 .1 .1 .1 .1 .1 .1 .1 .0) (c .before .before .before .before .before .before .before .before .before .gather .last .1 .1 .1 .1 .1 .1 .0) (c .before .before .before .before .before .before .before .before .before .gather .last .1 .1 .1 .1 .1 .1 .1 .0) (c .before .before .before .before .before .before .before .before .before .gather .last .1 .1 .1 .1 .1 .1 .1 .1 .0) (c .before .before .before .before .before .before .before .before .before .gather .last .1 .1 .1 .1 .1 .1 .1 .1 .1 .0)) (c .before .before .before .before .before .before .before .before .before .gather .result) (c .before .before .before .before .before .before .before .before .before .gather .ensures) (c .before .before .before .before .before .before .before .before .before .before .before .before .before .before .before .before .before .args .row .now) _ _ _ _ (c .before .before .before .before .before .before .before .next .given .1) refl (c .before .before .before .before .before .if1 .left), keys-positive (c .before .before .before .before .before .before .before .before .before .before .before .before .before .before .before .before .before .args .bytes .now) (slice-bytes (c .before .before .before .before .before .before .before .before .before .before .before .before .before .before .before .before .before .args .bytes .now) (λ i. omega (arith, c .before .before .before .before .before .before .before .before .before .before .before .before .before .before .before .before .shared-slice-known .given i))) (arrays (replicate 128 0) (replicate 4096 0) (rows (replicate 4096 0) (replicate 4096 0) (replicate 4096 0))) (arrays (c .before .before .before .before .before .before .before .before .before .gather .last .1 .1 .1 .1 .1 .1 .1 .1 .1 .1 .0) (c .before .before .before .before .before .before .before .before .before .gather .last .1 .1 .1 .1 .1 .1 .0) (rows (c .before .before .before .before .before .before .before .before .before .gather .last .1 .1 .1 .1 .1 .1 .1 .0) (c .before .before .before .before .before .before .before .before .before .gather .last .1 .1 .1 .1 .1 .1 .1 .1 .0) (c .before .before .before .before .before .before .before .before .before .gather .last .1 .1 .1 .1 .1 .1 .1 .1 .1 .0))) (Sized (c .before .before .before .before .before .before .before .before .before .gather .last .1 .1 .1 .1 .1 .1 .1 .1 .1 .1 .0) (c .before .before .before .before .before .before .before .before .before .gather .last .1 .1 .1 .1 .1 .1 .0) (c .before .before .before .before .before .before .before .before .before .gather .last .1 .1 .1 .1 .1 .1 .1 .0) (c .before .before .before .before .before .before .before .before .before .gather .last .1 .1 .1 .1 .1 .1 .1 .1 .0) (c .before .before .before .before .before .before .before .before .before .gather .last .1 .1 .1 .1 .1 .1 .1 .1 .1 .0)) (c .before .before .before .before .before .before .before .before .before .gather .result) (c .before .before .before .before .before .before .before .before .before .gather .ensures) (c .before .before .before .before .before .before .before .before .before .before .before .before .before .before .before .before .before .args .row .now) _ _ _ _ (c .before .before .before .before .before .before .before .next .given .1) refl (c .before .before .before .before .before .if1 .left)), (z .2, z .3, z .4, n .1, keys-among (c .before .before .before .before .before .before .before .before .before .before .before .before .before .before .before .before .before .args .bytes .now) (slice-bytes (c .before .before .before .before .before .before .before .before .before .before .before .before .before .before .before .before .before .args .bytes .now) (λ i. omega (arith, c .before .before .before .before .before .before .before .before .before .before .before .before .before .before .before .before .shared-slice-known .given i))) (arrays (replicate 128 0) (replicate 4096 0) (rows (replicate 4096 0) (replicate 4096 0) (replicate 4096 0))) (arrays (c .before .before .before .before .before .before .before .before .before .gather .last .1 .1 .1 .1 .1 .1 .1 .1 .1 .1 .0) (c .before .before .before .before .before .before .before .before .before .gather .last .1 .1 .1 .1 .1 .1 .0) (rows (c .before .before .before .before .before .before .before .before .before .gather .last .1 .1 .1 .1 .1 .1 .1 .0) (c .before .before .before .before .before .before .before .before .before .gather .last .1 .1 .1 .1 .1 .1 .1 .1 .0) (c .before .before .before .before .before .before .before .before .before .gather .last .1 .1 .1 .1 .1 .1 .1 .1 .1 .0))) (Sized (c .before .before .before .before .before .before .before .before .before .gather .last .1 .1 .1 .1 .1 .1 .1 .1 .1 .1 .0) (c .before .before .before .before .before .before .before .before .before .gather .last .1 .1 .1 .1 .1 .1 .0) (c .before .before .before .before .before .before .before .before .before .gather .last .1 .1 .1 .1 .1 .1 .1 .0) (c .before .before .before .before .before .before .before .before .before .gather .last .1 .1 .1 .1 .1 .1 .1 .1 .0) (c .before .before .before .before .before .before .before .before .before .gather .last .1 .1 .1 .1 .1 .1 .1 .1 .1 .0)) (c .before .before .before .before .before .before .before .before .before .gather .result) (c .before .before .before .before .before .before .before .before .before .gather .ensures) (c .before .before .before .before .before .before .before .before .before .before .before .before .before .before .before .before .before .args .row .now) _ _ _ _ (c .before .before .before .before .before .before .before .next .given .1) refl (c .before .before .before .before .before .if1 .left)))
 
 returns-2 : tie.Need-returns-2
-returns-2 c = listing-refused (c .before .before .before .before .before .before .before .before .before .before .before .before .before .args .bytes .now) (slice-bytes (c .before .before .before .before .before .before .before .before .before .before .before .before .before .args .bytes .now) (λ i. omega (arith, c .before .before .before .before .before .before .before .before .before .before .before .before .shared-slice-known .given i))) (arrays (replicate 128 0) (replicate 4096 0) (rows (replicate 4096 0) (replicate 4096 0) (replicate 4096 0))) (arrays (c .before .before .before .gather .last .1 .1 .1 .1 .1 .1 .1 .1 .1 .1 .0) (c .before .before .before .gather .last .1 .1 .1 .1 .1 .1 .0) (rows (c .before .before .before .gather .last .1 .1 .1 .1 .1 .1 .1 .0) (c .before .before .before .gather .last .1 .1 .1 .1 .1 .1 .1 .1 .0) (c .before .before .before .gather .last .1 .1 .1 .1 .1 .1 .1 .1 .1 .0))) (Sized (c .before .before .before .gather .last .1 .1 .1 .1 .1 .1 .1 .1 .1 .1 .0) (c .before .before .before .gather .last .1 .1 .1 .1 .1 .1 .0) (c .before .before .before .gather .last .1 .1 .1 .1 .1 .1 .1 .0) (c .before .before .before .gather .last .1 .1 .1 .1 .1 .1 .1 .1 .0) (c .before .before .before .gather .last .1 .1 .1 .1 .1 .1 .1 .1 .1 .0)) (c .before .before .before .gather .result) (c .before .before .before .gather .ensures) (c .before .before .before .before .before .before .before .before .before .before .before .before .before .args .row .now) _ (c .before .c .given .1)
+returns-2 c = listing-refused (c .before .before .before .before .before .before .before .before .before .before .before .args .bytes .now) (slice-bytes (c .before .before .before .before .before .before .before .before .before .before .before .args .bytes .now) (λ i. omega (arith, c .before .before .before .before .before .before .before .before .before .before .shared-slice-known .given i))) (arrays (replicate 128 0) (replicate 4096 0) (rows (replicate 4096 0) (replicate 4096 0) (replicate 4096 0))) (arrays (c .before .before .before .gather .last .1 .1 .1 .1 .1 .1 .1 .1 .1 .1 .0) (c .before .before .before .gather .last .1 .1 .1 .1 .1 .1 .0) (rows (c .before .before .before .gather .last .1 .1 .1 .1 .1 .1 .1 .0) (c .before .before .before .gather .last .1 .1 .1 .1 .1 .1 .1 .1 .0) (c .before .before .before .gather .last .1 .1 .1 .1 .1 .1 .1 .1 .1 .0))) (Sized (c .before .before .before .gather .last .1 .1 .1 .1 .1 .1 .1 .1 .1 .1 .0) (c .before .before .before .gather .last .1 .1 .1 .1 .1 .1 .0) (c .before .before .before .gather .last .1 .1 .1 .1 .1 .1 .1 .0) (c .before .before .before .gather .last .1 .1 .1 .1 .1 .1 .1 .1 .0) (c .before .before .before .gather .last .1 .1 .1 .1 .1 .1 .1 .1 .1 .0)) (c .before .before .before .gather .result) (c .before .before .before .gather .ensures) (c .before .before .before .before .before .before .before .before .before .before .before .args .row .now) _ (c .before .c .given .1)
 
 same-length : tie.Need-same-length
 same-length c = search needs
 
 returns-3 : tie.Need-returns-3
-returns-3 c = listing-done (c .before .before .before .before .before .before .before .before .before .before .before .before .before .before .before .before .before .before .before .before .before .before .args .bytes .now) (slice-bytes (c .before .before .before .before .before .before .before .before .before .before .before .before .before .before .before .before .before .before .before .before .before .before .args .bytes .now) (λ i. omega (arith, c .before .before .before .before .before .before .before .before .before .before .before .before .before .before .before .before .before .before .before .before .before .shared-slice-known .given i))) (arrays (replicate 128 0) (replicate 4096 0) (rows (replicate 4096 0) (replicate 4096 0) (replicate 4096 0))) (arrays (c .before .before .before .before .before .before .before .before .before .before .before .before .gather .last .1 .1 .1 .1 .1 .1 .1 .1 .1 .1 .0) (c .before .before .before .before .before .before .before .before .before .before .before .before .gather .last .1 .1 .1 .1 .1 .1 .0) (rows (c .before .before .before .before .before .before .before .before .before .before .before .before .gather .last .1 .1 .1 .1 .1 .1 .1 .0) (c .before .before .before .before .before .before .before .before .before .before .before .before .gather .last .1 .1 .1 .1 .1 .1 .1 .1 .0) (c .before .before .before .before .before .before .before .before .before .before .before .before .gather .last .1 .1 .1 .1 .1 .1 .1 .1 .1 .0))) (Sized (c .before .before .before .before .before .before .before .before .before .before .before .before .gather .last .1 .1 .1 .1 .1 .1 .1 .1 .1 .1 .0) (c .before .before .before .before .before .before .before .before .before .before .before .before .gather .last .1 .1 .1 .1 .1 .1 .0) (c .before .before .before .before .before .before .before .before .before .before .before .before .gather .last .1 .1 .1 .1 .1 .1 .1 .0) (c .before .before .before .before .before .before .before .before .before .before .before .before .gather .last .1 .1 .1 .1 .1 .1 .1 .1 .0) (c .before .before .before .before .before .before .before .before .before .before .before .before .gather .last .1 .1 .1 .1 .1 .1 .1 .1 .1 .0)) (c .before .before .before .before .before .before .before .before .before .before .before .before .gather .result) (c .before .before .before .before .before .before .before .before .before .before .before .before .gather .ensures) (c .before .before .before .before .before .before .before .before .before .before .before .before .before .before .before .before .before .before .before .before .before .before .args .row .now) _ _ _ _ (c .before .before .before .before .before .before .before .before .before .before .next .given .1) refl (c .before .before .before .before .before .before .before .before .if1 .left) _ _ _ (c .before .before .list .ensures)
+returns-3 c = listing-done (c .before .before .before .before .before .before .before .before .before .before .before .before .before .before .before .before .before .before .before .before .args .bytes .now) (slice-bytes (c .before .before .before .before .before .before .before .before .before .before .before .before .before .before .before .before .before .before .before .before .args .bytes .now) (λ i. omega (arith, c .before .before .before .before .before .before .before .before .before .before .before .before .before .before .before .before .before .before .before .shared-slice-known .given i))) (arrays (replicate 128 0) (replicate 4096 0) (rows (replicate 4096 0) (replicate 4096 0) (replicate 4096 0))) (arrays (c .before .before .before .before .before .before .before .before .before .before .before .before .gather .last .1 .1 .1 .1 .1 .1 .1 .1 .1 .1 .0) (c .before .before .before .before .before .before .before .before .before .before .before .before .gather .last .1 .1 .1 .1 .1 .1 .0) (rows (c .before .before .before .before .before .before .before .before .before .before .before .before .gather .last .1 .1 .1 .1 .1 .1 .1 .0) (c .before .before .before .before .before .before .before .before .before .before .before .before .gather .last .1 .1 .1 .1 .1 .1 .1 .1 .0) (c .before .before .before .before .before .before .before .before .before .before .before .before .gather .last .1 .1 .1 .1 .1 .1 .1 .1 .1 .0))) (Sized (c .before .before .before .before .before .before .before .before .before .before .before .before .gather .last .1 .1 .1 .1 .1 .1 .1 .1 .1 .1 .0) (c .before .before .before .before .before .before .before .before .before .before .before .before .gather .last .1 .1 .1 .1 .1 .1 .0) (c .before .before .before .before .before .before .before .before .before .before .before .before .gather .last .1 .1 .1 .1 .1 .1 .1 .0) (c .before .before .before .before .before .before .before .before .before .before .before .before .gather .last .1 .1 .1 .1 .1 .1 .1 .1 .0) (c .before .before .before .before .before .before .before .before .before .before .before .before .gather .last .1 .1 .1 .1 .1 .1 .1 .1 .1 .0)) (c .before .before .before .before .before .before .before .before .before .before .before .before .gather .result) (c .before .before .before .before .before .before .before .before .before .before .before .before .gather .ensures) (c .before .before .before .before .before .before .before .before .before .before .before .before .before .before .before .before .before .before .before .before .args .row .now) _ _ _ _ (c .before .before .before .before .before .before .before .before .before .before .next .given .1) refl (c .before .before .before .before .before .before .before .before .if1 .left) _ _ _ (c .before .before .list .ensures)
 
 pub undo-listing-spec : {M : Type 1} → statement M
 undo-listing-spec =

@@ -1,8 +1,8 @@
 -- `is_on` meets its contract: a name has itself and its co-name on it, anything else nothing.
-use Rattle.survey.proofs.Tests.{on-name, on-coname}
+use Rattle.shared.proofs.Labels.{on-name, on-coname}
 use borrow.Author.Needs.{needs}
-use Rattle.survey.proofs.seen.is_on.Statement.{statement}
-use Rattle.survey.proofs.seen.is_on.Tie as tie
+use Rattle.shared.proofs.is_on.Statement.{statement}
+use Rattle.shared.proofs.is_on.Tie as tie
 
 returns : tie.Need-returns
 returns c = search needs
