@@ -1,5 +1,4 @@
--- Why the pass fills the rows as the term says.
-pub mod Writes
-pub mod Views
-pub mod Charts
-pub mod Whole
+-- Why the rows are those of the record: the lines are noted from the first node to the last and settled from the last to the first.
+pub mod Noting
+pub mod Settling
+pub mod Answers

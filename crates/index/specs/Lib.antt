@@ -1,3 +1,3 @@
--- What the pass over a record leaves in the rows.
-pub mod Chart
+-- What the rows of a record are, and what the two loops that fill them promise.
+pub mod Lines
 pub mod Whole

@@ -1,210 +1,264 @@
-// The rows of a record, filled in one pass: what a search for steps has to know of each node.
+// The rows of a record: for each node how a search goes on from it, its action or name, and where what begins there ends. Two loops fill
+// them: the record is read from the first node to the last, then forms and ends are settled from the last node to the first.
 ghost use mathlib.Core.Path.{_≡_};
-ghost use mathlib.Core.Bool.{cond, not, _&&_};
-ghost use Prim.Native.Nat.{_-_, _≤_, _<_};
-ghost use lib.Dec.{eqb};
-ghost use lib.ListN.{length, replicate};
-ghost use lib.Seq.{sets};
+ghost use mathlib.Core.Bool.{false};
+ghost use Prim.Native.Nat.{_+_, _<_};
+ghost use lib.ListN.{length, getD, set};
 ghost use Rattle.format.specs.Limits.{node-limit};
-ghost use Rattle.format.specs.Read.{keyOf};
-ghost use Rattle.paths.specs.Rows.{no-action, shown};
-ghost use Rattle.index.specs.Chart.{Noted, Room, SomeTerm, Charts};
-ghost use Rattle.index.specs.Whole.{Indexes};
-use reader::CHOICE;
+ghost use Rattle.offers.specs.Forms.{choice-form};
+ghost use Rattle.index.specs.Lines.{Notes, form-of, holds-of, end-of, Notable, Settles};
+ghost use Rattle.index.specs.Whole.{Room, Indexes};
+use keys::key_at;
+use reader::DEPTH;
+use reader::DUE;
+use reader::Head;
 use reader::NODES;
-use reader::PREFIX;
-use reader::body_length;
-use reader::child_count;
-use reader::read;
-use shared::NAMES;
-use shared::NO_ACTION;
+use reader::pass_node;
+use shared::NO_RECORD;
 use shared::NOT_DONE;
-use shared::Name;
 use shared::Number;
-use shared::both;
 use shared::either;
-use shared::key_of;
-use shared::slot;
-use shared::slot_of;
-use shared::wide_byte;
+use shared::wide;
 
-// Where a term ends: the place after its bytes, the node after its last, and whether some prefix of it holds a key.
-pub struct Span {
-    pub next: usize,
-    pub end: usize,
-    pub holds: bool,
-}
+// The kinds of a node, as bytes.
+const NIL: u8 = reader::NIL as u8;
 
-// A term that ends there.
-fn ended(next: usize, end: usize, holds: bool) -> Span
-    ensures { λ r. ⌜ (r .next ≡ next) × (r .end ≡ end) × (r .holds ≡ holds) ⌝ }
+const CHOICE: u8 = reader::CHOICE as u8;
+
+const PARALLEL: u8 = reader::PARALLEL as u8;
+
+const RESTRICTION: u8 = reader::RESTRICTION as u8;
+
+// The forms of a node: how a search goes on from it.
+pub const NOTHING: u8 = 0;
+
+pub const OWN: u8 = 1;
+
+pub const NEXT: u8 = 2;
+
+pub const SECOND: u8 = 3;
+
+pub const EITHER: u8 = 4;
+
+pub const BOTH: u8 = 5;
+
+pub const HIDDEN: u8 = 6;
+
+// The byte after the place `at`; 0 if that is the last.
+fn byte_after(bytes: &[u8], at: usize) -> u8
+    requires { ⌜ at < length (now bytes) ⌝ }
+    ensures { λ r. ⌜ (at + 1 < length (now (bytes .entry)) → r ≡ getD (now (bytes .entry)) (at + 1) 0) ⌝ }
 {
-    Span {
-        next: next,
-        end: end,
-        holds: holds,
+    let next = at + 1;
+    if next < bytes.len() {
+        return bytes[next];
     }
+    0
 }
 
-// Whether a key is not 0.
-fn is_done(high: u8, low: u8) -> bool
-    ensures { λ r. ⌜ r ≡ not (eqb (keyOf high low) 0) ⌝ }
-{
-    key_of(high, low) != NOT_DONE
-}
-
-// The first holds and the second does not.
-fn but_not(x: bool, y: bool) -> bool
-    ensures { λ r. ⌜ r ≡ (x && not y) ⌝ }
-{
-    if x {
-        if y {
-            return false;
-        }
-        return true;
-    }
-    false
-}
-
-// The action, where it may be seen.
-fn seen(may: bool, a: u8) -> u8
-    ensures { λ r. ⌜ r ≡ shown may a ⌝ }
-{
-    if may {
-        return a;
-    }
-    NO_ACTION
-}
-
-// The first number if the test holds, else the second.
-fn pick(test: bool, x: usize, y: usize) -> usize
-    ensures { λ r. ⌜ r ≡ cond test x y ⌝ }
-{
-    if test {
-        return x;
-    }
-    y
-}
-
-// No action for the nodes from `from` to before `to`. In a record that keeps condition 2 of soundness no node is silenced twice.
-fn silence(actions: &mut [u8; NODES], from: usize, to: usize)
-    requires { ⌜ (length (now actions) ≡ node-limit) × (from ≤ to) × (to ≤ node-limit) ⌝ }
-    ensures { λ _. ⌜ now (actions .exit) ≡ sets (now (actions .entry)) from (replicate (to - from) no-action) ⌝ }
-    ensures { λ _. ⌜ length (now (actions .exit)) ≡ node-limit ⌝ }
-{
-    let mut i = from;
-    while i < to {
-        actions[i] = NO_ACTION;
-        i += 1;
-    }
-}
-
-// Writes the line of node n into the rows.
+// Notes the line of node n.
 fn note(
     n: usize,
-    action: u8,
-    scope: u16,
-    side: usize,
-    end: usize,
-    actions: &mut [u8; NODES],
-    scopes: &mut [u16; NODES],
-    sides: &mut [u16; NODES],
-    ends: &mut [u16; NODES],
+    kind: u8,
+    arg: u8,
+    done: bool,
+    forms: &mut [u8; NODES],
+    args: &mut [u8; NODES],
+    holds: &mut [bool; NODES],
 )
-    requires { ⌜ (n < node-limit) × (side ≤ node-limit) × (end ≤ node-limit) ⌝ }
-    requires { ⌜ (length (now actions) ≡ node-limit) × (length (now scopes) ≡ node-limit) × (length (now sides) ≡ node-limit) × (length (now ends) ≡ node-limit) ⌝ }
-    ensures { λ _. ⌜ Noted n action scope side end (now (actions .entry)) (now (scopes .entry)) (now (sides .entry)) (now (ends .entry)) (now (actions .exit)) (now (scopes .exit)) (now (sides .exit)) (now (ends .exit)) ⌝ }
+    requires { ⌜ n < node-limit ⌝ }
+    ensures { λ _. ⌜ now (forms .exit) ≡ set (now (forms .entry)) n kind ⌝ }
+    ensures { λ _. ⌜ now (args .exit) ≡ set (now (args .entry)) n arg ⌝ }
+    ensures { λ _. ⌜ now (holds .exit) ≡ set (now (holds .entry)) n done ⌝ }
 {
-    actions[n] = action;
-    scopes[n] = scope;
-    sides[n] = side as u16;
-    ends[n] = end as u16;
+    forms[n] = kind;
+    args[n] = arg;
+    holds[n] = done;
 }
 
-// Fills the rows for the term at `at`, whose root is node n. `live` says whether what stands above lets it step, `side` is the nearest first
-// side of a choice that it stands in, and the table has the scope of each name.
-fn chart(
-    s: &[u8],
-    at: usize,
-    n: usize,
-    live: bool,
-    side: usize,
-    table: &mut [u16; NAMES],
-    actions: &mut [u8; NODES],
-    scopes: &mut [u16; NODES],
-    sides: &mut [u16; NODES],
-    ends: &mut [u16; NODES],
-) -> Span
-    requires { ⌜ SomeTerm (now s) at n ⌝ }
-    requires { ⌜ (side ≤ n) × Room (now table) (now actions) (now scopes) (now sides) (now ends) ⌝ }
-    ensures { λ r. ⌜ Charts (now (s .entry)) at n live side (now (table .entry)) (now (actions .entry)) (now (scopes .entry)) (now (sides .entry)) (now (ends .entry)) (now (table .exit)) (now (actions .exit)) (now (scopes .exit)) (now (sides .exit)) (now (ends .exit)) r ⌝ }
+// Reads the record and notes the kind of each node, the byte after it, which is its action or name if it has one, and whether it is done:
+// the refusal, or the number of nodes.
+fn note_all(
+    bytes: &[u8],
+    forms: &mut [u8; NODES],
+    args: &mut [u8; NODES],
+    holds: &mut [bool; NODES],
+) -> Number
+    requires { ⌜ (length (now forms) ≡ node-limit) × (length (now args) ≡ node-limit) × (length (now holds) ≡ node-limit) ⌝ }
+    ensures { λ r. ⌜ Notes (now (bytes .entry)) (now (forms .exit)) (now (args .exit)) (now (holds .exit)) r ⌝ }
+    ensures { λ r. ⌜ (length (now (forms .exit)) ≡ node-limit) × (length (now (args .exit)) ≡ node-limit) × (length (now (holds .exit)) ≡ node-limit) ⌝ }
 {
-    let kind = wide_byte(s[at]);
-    let next = at + 1 + body_length(kind);
-    let i = n + 1;
-    if child_count(kind) == 0 {
-        note(n, NO_ACTION, 0, side, i, actions, scopes, sides, ends);
-        return ended(next, i, false);
+    let mut due = [DEPTH; DUE];
+    let mut many: usize = 1;
+    let mut left = NODES;
+    let mut at: usize = 0;
+    let mut n: usize = 0;
+    while 0 < many {
+        match pass_node(bytes, at, left, many, &mut due) {
+            Head::Refused(c) => {
+                return Number::Refused(c);
+            }
+            Head::Node {
+                kind: _,
+                children,
+                next,
+            } => {
+                let kind = bytes[at];
+                let arg = byte_after(bytes, at);
+                let key = key_at(bytes, at);
+                note(n, kind, arg, key != NOT_DONE, forms, args, holds);
+                many = many - 1 + children;
+                left -= 1;
+                at = next;
+                n += 1;
+            }
+        }
     }
-    if kind == PREFIX {
-        let a = s[at + 1];
-        let done = is_done(s[at + 2], s[at + 3]);
-        let on = both(live, done);
-        let sub = chart(s, next, i, on, side, table, actions, scopes, sides, ends);
-        let own = seen(but_not(but_not(live, done), sub.holds), a);
-        let scope = table[slot_of(a)];
-        note(n, own, scope, side, sub.end, actions, scopes, sides, ends);
-        return ended(sub.next, sub.end, either(done, sub.holds));
+    if at < bytes.len() {
+        return Number::Refused(NO_RECORD);
     }
-    if child_count(kind) == 1 {
-        let a = s[at + 1];
-        let place = slot(Name(a));
-        let outer = table[place];
-        table[place] = i as u16;
-        let sub = chart(s, next, i, live, side, table, actions, scopes, sides, ends);
-        table[place] = outer;
-        note(n, NO_ACTION, 0, side, sub.end, actions, scopes, sides, ends);
-        return sub;
+    Number::Is(n)
+}
+
+// The form of a choice, by which of its sides hold a key.
+fn choice_form(below: bool, beside: bool) -> u8
+    ensures { λ r. ⌜ r ≡ choice-form below beside ⌝ }
+{
+    if below {
+        if beside {
+            return NOTHING;
+        }
+        return NEXT;
     }
-    let choice = kind == CHOICE;
-    let inner = pick(choice, i, side);
-    let first = chart(s, next, i, live, inner, table, actions, scopes, sides, ends);
-    let x = first.next;
-    let m = first.end;
-    let on = but_not(live, both(choice, first.holds));
-    let sub = chart(s, x, m, on, side, table, actions, scopes, sides, ends);
-    silence(actions, i, pick(both(choice, sub.holds), m, i));
-    note(n, NO_ACTION, 0, side, sub.end, actions, scopes, sides, ends);
-    ended(sub.next, sub.end, either(first.holds, sub.holds))
+    if beside {
+        return SECOND;
+    }
+    EITHER
+}
+
+// The form of a node, by tests on its kind, the form that its sides give it as a choice, whether it is done, and whether its first part holds a key.
+fn form_of(
+    leaf: bool,
+    choice: bool,
+    two: bool,
+    restriction: bool,
+    sides: u8,
+    done: bool,
+    below: bool,
+) -> u8
+    ensures { λ r. ⌜ r ≡ form-of leaf choice two restriction sides done below ⌝ }
+{
+    if leaf {
+        return NOTHING;
+    }
+    if choice {
+        return sides;
+    }
+    if two {
+        return BOTH;
+    }
+    if restriction {
+        return HIDDEN;
+    }
+    if done {
+        return NEXT;
+    }
+    if below {
+        return NOTHING;
+    }
+    OWN
+}
+
+// Whether what begins at a node holds a key, by which of its parts do.
+fn holds_of(leaf: bool, two: bool, done: bool, below: bool, beside: bool) -> bool
+    ensures { λ r. ⌜ r ≡ holds-of leaf two done below beside ⌝ }
+{
+    if leaf {
+        return false;
+    }
+    if two {
+        return below || beside;
+    }
+    done || below
+}
+
+// Where it ends: its first part ends at `end`, its second at `last`.
+fn end_of(leaf: bool, two: bool, next: u16, end: u16, last: u16) -> u16
+    ensures { λ r. ⌜ r ≡ end-of leaf two next end last ⌝ }
+{
+    if leaf {
+        return next;
+    }
+    if two {
+        return last;
+    }
+    end
+}
+
+// Writes the line of node i.
+fn write(
+    i: usize,
+    form: u8,
+    end: u16,
+    held: bool,
+    forms: &mut [u8; NODES],
+    ends: &mut [u16; NODES],
+    holds: &mut [bool; NODES],
+)
+    requires { ⌜ i < node-limit ⌝ }
+    ensures { λ _. ⌜ now (forms .exit) ≡ set (now (forms .entry)) i form ⌝ }
+    ensures { λ _. ⌜ now (ends .exit) ≡ set (now (ends .entry)) i end ⌝ }
+    ensures { λ _. ⌜ now (holds .exit) ≡ set (now (holds .entry)) i held ⌝ }
+{
+    forms[i] = form;
+    ends[i] = end;
+    holds[i] = held;
+}
+
+// Settles the noted lines of n nodes, from the last to the first. `end` and `held` are what was written at the node settled before, where the
+// first part of node i begins. A node without a second part reads some line in its place and takes nothing from it.
+fn settle(n: usize, forms: &mut [u8; NODES], ends: &mut [u16; NODES], holds: &mut [bool; NODES])
+    requires { ⌜ (length (now forms) ≡ node-limit) × (length (now ends) ≡ node-limit) × (length (now holds) ≡ node-limit) ⌝ }
+    requires { ⌜ Notable n (now forms) (now holds) ⌝ }
+    ensures { λ _. ⌜ Settles n (now (forms .entry)) (now (holds .entry)) (now (forms .exit)) (now (ends .exit)) ⌝ }
+    ensures { λ _. ⌜ (length (now (forms .exit)) ≡ node-limit) × (length (now (ends .exit)) ≡ node-limit) ⌝ }
+{
+    let mut i = n;
+    let mut end: u16 = 0;
+    let mut held = false;
+    while 0 < i {
+        let next = i as u16;
+        i -= 1;
+        let kind = forms[i];
+        let leaf = kind == NIL;
+        let choice = kind == CHOICE;
+        let two = either(choice, kind == PARALLEL);
+        let done = holds[i];
+        let second = wide(end) % NODES;
+        let beside = holds[second];
+        let sides = choice_form(held, beside);
+        let form = form_of(leaf, choice, two, kind == RESTRICTION, sides, done, held);
+        held = holds_of(leaf, two, done, held, beside);
+        end = end_of(leaf, two, next, end, ends[second]);
+        write(i, form, end, held, forms, ends, holds);
+    }
 }
 
 // Reads the record and fills its rows: the refusal, or the number of nodes. The rows are the caller's; each has room for all nodes.
 pub fn index(
     bytes: &[u8],
-    actions: &mut [u8; NODES],
-    scopes: &mut [u16; NODES],
-    sides: &mut [u16; NODES],
+    forms: &mut [u8; NODES],
+    args: &mut [u8; NODES],
     ends: &mut [u16; NODES],
 ) -> Number
-    requires { ⌜ (length (now actions) ≡ node-limit) × (length (now scopes) ≡ node-limit) × (length (now sides) ≡ node-limit) × (length (now ends) ≡ node-limit) ⌝ }
-    ensures { λ r. ⌜ Indexes (now (bytes .entry)) (now (actions .exit)) (now (scopes .exit)) (now (sides .exit)) (now (ends .exit)) r ⌝ }
+    requires { ⌜ Room (now forms) (now args) (now ends) ⌝ }
+    ensures { λ r. ⌜ Indexes (now (bytes .entry)) (now (forms .exit)) (now (args .exit)) (now (ends .exit)) r ⌝ }
 {
-    match read(bytes) {
+    let mut holds = [false; NODES];
+    match note_all(bytes, forms, args, &mut holds) {
         Number::Refused(c) => Number::Refused(c),
         Number::Is(n) => {
-            let mut table = [0u16; NAMES];
-            chart(
-                bytes,
-                0,
-                0,
-                true,
-                0,
-                &mut table,
-                actions,
-                scopes,
-                sides,
-                ends,
-            );
+            settle(n, forms, ends, &mut holds);
             Number::Is(n)
         }
     }

@@ -5,40 +5,26 @@ use crate::out::put;
 use crate::out::put_number;
 use index::index;
 use labels::undo_labels;
-use links::link;
+use labelset::FULL;
+use labelset::full;
+use partners::meet;
 use reader::NODES;
-use search::First;
-use search::next_step;
-use search::settle;
 use shared::NO_ACTION;
-use shared::Node;
 use shared::Number;
+use shared::wide;
 use undos::listing::undo_listing;
+use wanted::WANTED;
+use wanted::WORDS;
+use wanted::mark;
 ghost use mathlib.Core.Path.{_≡_};
-ghost use Prim.Native.Nat.{_≤_};
+ghost use Prim.Native.Nat.{_≤_, _<_};
 ghost use lib.ListN.{length};
 ghost use Rattle.format.specs.Limits.{node-limit};
 ghost use Rattle.operations.specs.Ask.{ReadRecord};
 ghost use Rattle.shared.specs.Number.{refusal, value};
-ghost use Rattle.index.specs.Whole.{SomeRows};
-ghost use Rattle.search.specs.Scan.{Settled};
-
-// No record has more forward steps than pairs of nodes.
-const MOST_STEPS: usize = NODES * NODES;
-
-// Puts the words and numbers of one line.
-fn put_line(space: &mut [u8], n: usize, word: &[u8], x: u64, y: u64, z: u64) -> usize
-    requires { ⌜ (n ≤ 4096) × (length (now space) ≡ 4096) ⌝ }
-    ensures { λ r. ⌜ (r ≤ 4096) × (length (now (space .exit)) ≡ 4096) ⌝ }
-{
-    let a = put(space, n, word);
-    let b = put_number(space, a, x);
-    let c = put(space, b, b" ");
-    let d = put_number(space, c, y);
-    let e = put(space, d, b" ");
-    let f = put_number(space, e, z);
-    put(space, f, b"\n")
-}
+ghost use Rattle.offers.specs.Forms.{SomePart};
+ghost use Rattle.index.specs.Whole.{Room};
+ghost use Rattle.wanted.specs.Kept.{Covers};
 
 // A number that an operation answered; the record is read already, so none is refused.
 fn value(given: Number) -> u64 {
@@ -48,52 +34,85 @@ fn value(given: Number) -> u64 {
     }
 }
 
-// A line for each forward step, in order.
-fn put_steps(
+// Puts what every line of a step of node i begins with.
+fn put_head(line: &mut [u8], i: usize) -> usize
+    requires { ⌜ length (now line) ≡ 4096 ⌝ }
+    ensures { λ r. ⌜ (r ≤ 4096) × (length (now (line .exit)) ≡ 4096) ⌝ }
+{
+    let a = put(line, 0, b"forward ");
+    let b = put_number(line, a, i as u64);
+    put(line, b, b" ")
+}
+
+// The line of a step alone that begins with the first `head` bytes of a text, if the place shows a label.
+fn put_alone(space: &mut [u8], n: usize, line: &[u8], head: usize, label: u8) -> usize
+    requires { ⌜ (n ≤ 4096) × (length (now space) ≡ 4096) × (head ≤ 4096) × (length (now line) ≡ 4096) ⌝ }
+    ensures { λ r. ⌜ (r ≤ 4096) × (length (now (space .exit)) ≡ 4096) ⌝ }
+{
+    if label == NO_ACTION {
+        return n;
+    }
+    let a = put(space, n, &line[..head]);
+    let b = put(space, a, b"0 ");
+    let c = put_number(space, b, label as u64);
+    put(space, c, b"\n")
+}
+
+// A line for each of the first `count` partners, each with tau.
+fn put_pairs(
     space: &mut [u8],
     n: usize,
-    actions: &[u8; NODES],
-    scopes: &[u16; NODES],
-    sides: &[u16; NODES],
-    ends: &[u16; NODES],
-    twins: &[u16; NODES],
-    partners: &[u16; NODES],
-    nodes: usize,
+    line: &[u8],
+    head: usize,
+    mates: &[u16; NODES],
+    count: usize,
 ) -> usize
-    requires { ⌜ (n ≤ 4096) × (length (now space) ≡ 4096) ⌝ }
-    requires { ⌜ SomeRows nodes (now actions) (now scopes) (now sides) (now ends) ⌝ }
-    requires { ⌜ Settled nodes (now actions) (now scopes) (now sides) (now ends) (now twins) (now partners) ⌝ }
+    requires { ⌜ (n ≤ 4096) × (length (now space) ≡ 4096) × (head ≤ 4096) × (length (now line) ≡ 4096) ⌝ }
+    requires { ⌜ (count ≤ node-limit) × (length (now mates) ≡ node-limit) ⌝ }
     ensures { λ r. ⌜ (r ≤ 4096) × (length (now (space .exit)) ≡ 4096) ⌝ }
 {
     let mut at = n;
-    let mut p: u16 = 0;
-    let mut q: u16 = 0;
-    let mut left = MOST_STEPS;
-    while 0 < left {
-        left -= 1;
-        match next_step(
-            actions,
-            scopes,
-            sides,
-            ends,
-            twins,
-            partners,
-            nodes,
-            Node(p),
-            Node(q),
-        ) {
-            First::Refused(_) => {
-                return at;
-            }
-            First::None => {
-                return at;
-            }
-            First::Found { p: i, q: j, label } => {
-                at = put_line(space, at, b"forward ", i as u64, j as u64, label as u64);
-                p = i;
-                q = std::num::wrapping_add_u16(j, 1);
-            }
+    let mut k: usize = 0;
+    while k < count {
+        let a = put(space, at, &line[..head]);
+        let b = put_number(space, a, wide(mates[k]) as u64);
+        at = put(space, b, b" 0\n");
+        k += 1;
+    }
+    at
+}
+
+// A line for each forward step, in order: a wanted place is met once, and all its partners with it.
+fn put_steps(
+    space: &mut [u8],
+    n: usize,
+    forms: &[u8; NODES],
+    args: &[u8; NODES],
+    ends: &[u16; NODES],
+    marks: &[u8; NODES],
+    sets: &[u64],
+    nodes: usize,
+) -> usize
+    requires { ⌜ (n ≤ 4096) × (length (now space) ≡ 4096) × (nodes ≤ node-limit) × (length (now marks) ≡ node-limit) ⌝ }
+    requires { ⌜ SomePart (now forms) (now args) (now ends) 0 ⌝ }
+    requires { ⌜ Room (now forms) (now args) (now ends) × Covers (now forms) (now args) (now ends) (now sets) ⌝ }
+    ensures { λ r. ⌜ (r ≤ 4096) × (length (now (space .exit)) ≡ 4096) ⌝ }
+{
+    let mut mates = [0u16; NODES];
+    let mut text = [0u8; SPACE];
+    let line: &mut [u8] = &mut text;
+    let mut at = n;
+    let mut i: usize = 0;
+    while i < nodes {
+        if marks[i] != WANTED {
+            i += 1;
+            continue;
         }
+        let met = meet(0, i, true, forms, args, ends, sets, &mut mates);
+        let head = put_head(line, i);
+        let pairs = put_alone(space, at, line, head, met.label);
+        at = put_pairs(space, pairs, line, head, &mates, met.count);
+        i += 1;
     }
     at
 }
@@ -165,39 +184,39 @@ fn put_counts(space: &mut [u8], bytes: &[u8], nodes: usize) -> usize
     put(space, f, b"\n")
 }
 
-// Writes all lines of a record, or its refusal, and answers which: the refusal, or the number of nodes. The record is indexed and linked
-// once, and each step is asked for where the last one stood.
+// Writes all lines of a record, or its refusal, and answers which: the refusal, or the number of nodes. The record is indexed and its
+// wanted places are marked once. What each part shows is noted on the way, so that the search for partners enters no part in vain.
 pub fn list(bytes: &[u8]) -> Number
     ensures { λ r. ⌜ ReadRecord (now (bytes .entry)) (refusal r) (value r) ⌝ }
 {
     let mut room = [0u8; SPACE];
     let space: &mut [u8] = &mut room;
-    let mut actions = [NO_ACTION; NODES];
-    let mut scopes = [0u16; NODES];
-    let mut sides = [0u16; NODES];
+    let mut forms = [0u8; NODES];
+    let mut args = [0u8; NODES];
     let mut ends = [0u16; NODES];
-    match index(bytes, &mut actions, &mut scopes, &mut sides, &mut ends) {
+    match index(bytes, &mut forms, &mut args, &mut ends) {
         Number::Refused(c) => {
             list_refused(space, c);
             Number::Refused(c)
         }
         Number::Is(n) => {
-            let mut twins = [0u16; NODES];
-            let mut partners = [0u16; NODES];
-            link(&actions, &scopes, n, &mut twins, &mut partners);
-            settle(&actions, &scopes, &sides, &ends, &twins, &mut partners, n);
-            let a = put_counts(space, bytes, n);
-            let b = put_steps(
-                space,
-                a,
-                &actions,
-                &scopes,
-                &sides,
+            let mut marks = [0u8; NODES];
+            let mut sets = [FULL; WORDS * (NODES + 1)];
+            let all = full();
+            mark(
+                0,
+                all.a,
+                all.b,
+                all.c,
+                all.d,
+                &forms,
+                &args,
                 &ends,
-                &twins,
-                &partners,
-                n,
+                &mut marks,
+                &mut sets,
             );
+            let a = put_counts(space, bytes, n);
+            let b = put_steps(space, a, &forms, &args, &ends, &marks, &sets, n);
             let c = put_allowed(space, b, bytes);
             flush(space, c);
             Number::Is(n)

@@ -1,24 +1,34 @@
 -- The answer of the search over the rows of a record is the operation's answer.
-use mathlib.Core.Path.{_≡_, subst}
+use mathlib.Core.Path.{_≡_, _∙_}
+use mathlib.Core.Logic.{_⊎_, inr, ⊎-elim, _≢_, _↔_}
 use mathlib.Core.List.{List}
-use Prim.Native.Nat.{ℕ}
+use Prim.Native.Nat.{ℕ, _<_}
+use lib.ListN.{length, getD}
 use Rattle.ccsk.specs.Term.{Term, Node}
-use Rattle.format.specs.Read.{Reads, Refuses}
+use Rattle.format.specs.Limits.{node-limit}
+use Rattle.format.specs.Read.{Reads}
 use Rattle.operations.specs.Ask.{FirstStep, FirstStep.none, FirstStep.found}
-use Rattle.shared.specs.declared.Number.{Number}
-use Rattle.shared.specs.declared.Number.the-variants as number
-use Rattle.index.specs.Whole.{Rows, Indexes}
+use Rattle.labelset.specs.declared.Labels.{Labels}
+use Rattle.labelset.specs.Set.{Shows, Exactly}
+use Rattle.offers.specs.Offers.{Wanted}
+use Rattle.offers.proofs.Places.{trans}
+use Rattle.offers.proofs.Wanted.{wanted-same}
+use Rattle.wanted.specs.Pass.{Marks}
+use Rattle.index.specs.Whole.{Rows}
+use Rattle.index.proofs.Answers.{rows-part}
 use Rattle.search.specs.declared.First.{First}
 use Rattle.search.specs.declared.First.the-variants.{Refused, None, Found}
 use Rattle.search.specs.First as answer
+use Rattle.search.proofs.Places.{at-zero}
 
--- what `index` has answered, once its case is known
-module _ (s A R S E : List ℕ) (r : Number) (I : Indexes s A R S E r) where
-  pub index-refused : (c : ℕ) → r ≡ number.Refused c → Refuses s c
-  index-refused c e = subst (Indexes s A R S E) e I
-
-  pub index-filled : (n : ℕ) → r ≡ number.Is n → (t : Term) × Reads s t × Rows t n A R S E
-  index-filled n e = subst (Indexes s A R S E) e I
+-- the marks that the pass leaves in a row without any, if every label is asked for
+pub marked-all : {F A E Z M K K′ : List ℕ} {all : Labels} {t : Term} {n : ℕ} → Rows t n F A E → Exactly all (λ l. l < 256) → ((i : Node) → getD Z i 0 ≢ 1) → length Z ≡ node-limit → Marks F A E 0 all Z K M K′
+    → answer.Ready t n F A E M
+marked-all {Z = Z} {M = M} {all = all} {t = t} R e z h m = record { rows = R; marked = λ i. trans (added i) (wanted-same {t = t} (e .at) i); room = m .room ∙ h }
+  where
+    added : (i : Node) → (getD M i 0 ≡ 1) ↔ Wanted (Shows all) t i
+    added i = let w = m .part t (rows-part R) .adds .at i in let a = at-zero (Wanted (Shows all) t) i in
+        (λ x. ⊎-elim (λ y. absurd (z i y)) (λ y. a .0 y) (w .0 x), λ x. w .1 (inr (a .1 x)))
 
 pub first-answer : (s : List ℕ) (t : Term) (p q : Node) → Reads s t → (r : First) → answer.NextOf t p q r
     → FirstStep s p q (answer.refusal r) (answer.found r) (answer.first-place r) (answer.second-place r) (answer.label r)

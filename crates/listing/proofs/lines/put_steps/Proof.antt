@@ -1,76 +1,45 @@
--- `put_steps` is safe and ends: what is gathered stays within the buffer, and the budget of steps falls.
+-- `put_steps` is safe and ends: what is gathered stays within the buffer, and the nodes that are left fall.
 use borrow.Author.Needs.{needs}
-use mathlib.Core.Path.{_≡_}
-use Prim.Native.Nat.{_≤_, _-_}
-use lib.ListN.{length}
 use Rattle.listing.proofs.lines.put_steps.Statement.{statement}
 use Rattle.listing.proofs.lines.put_steps.Tie as tie
+use mathlib.Core.Path.{_≡_, refl, _∙_}
+use native.Mathlib.Omega.{arith}
+use Prim.Native.Nat.{_≤_, _-_}
+use lib.ListN.{length}
+use Rattle.format.specs.Limits.{node-limit}
 
 abbrev Inv-loop : tie.InvT-loop
-Inv-loop space₀ n actions scopes sides ends twins partners nodes at₀ p₀ q₀ left₀ t15 space at p q left = (at ≤ 4096) × (length space ≡ 4096)
+Inv-loop space₀ n forms args ends marks sets nodes mates₀ line₀ at₀ i₀ space mates line at i = (at ≤ 4096) × (length space ≡ 4096) × (length mates ≡ node-limit) × (length line ≡ 4096)
 
 abbrev μ-loop : tie.MeasureT-loop
-μ-loop space₀ n actions scopes sides ends twins partners nodes at₀ p₀ q₀ left₀ t15 space at p q left = left
+μ-loop space₀ n forms args ends marks sets nodes mates₀ line₀ at₀ i₀ space mates line at i = nodes - i
 
 loop-holds : tie.Need-loop-holds Inv-loop μ-loop
-loop-holds c = search needs
+loop-holds c = (c .before .before .before .pre .0 .0, c .before .before .before .pre .0 .1, refl, refl)
 
-sub-left : tie.Need-sub-left Inv-loop μ-loop
-sub-left c = search needs
+element-copy-out-if1 : tie.Need-element-copy-out-if1 Inv-loop μ-loop
+element-copy-out-if1 c = omega (arith, c .before .before .before .before .before .pre .0 .2, c .before .before .before .before .before .pre .0 .3, c .loop-test .taken)
 
-next-step-requires : tie.Need-next-step-requires Inv-loop μ-loop
-next-step-requires c κs = search needs
+meet-requires : tie.Need-meet-requires Inv-loop μ-loop
+meet-requires c κs = (c .before .before .before .before .before .before .before .before .pre .1 .0, (c .before .before .before .before .before .before .before .before .pre .1 .1 .0, c .before .before .before .before .loop .inv .2))
 
-enum-told : tie.Need-enum-told Inv-loop μ-loop
-enum-told c = search needs
+put-head-requires : tie.Need-put-head-requires Inv-loop μ-loop
+put-head-requires c κs = c .before .before .before .before .before .before .loop .inv .3
 
-same-length : tie.Need-same-length Inv-loop μ-loop
-same-length c = search needs
+put-alone-requires : tie.Need-put-alone-requires Inv-loop μ-loop
+put-alone-requires c κs = (c .before .before .before .before .before .before .before .before .before .before .before .loop .inv .0, c .before .before .before .before .before .before .before .before .before .before .before .loop .inv .1, c .before .before .before .before .put-head .ensures .0, c .before .before .before .before .put-head .ensures .1)
 
-returns : tie.Need-returns Inv-loop μ-loop
-returns c = search needs
+put-pairs-requires : tie.Need-put-pairs-requires Inv-loop μ-loop
+put-pairs-requires c κs = let S = c .before .before .before .before .before .before .before .before .before .before .before .before .before .before .before .before .before .before .before .before .before .pre .1 .0 in ((c .before .before .before .before .before .put-alone .ensures .0, c .before .before .before .before .before .put-alone .ensures .1, c .before .before .before .before .before .before .before .before .before .before .put-head .ensures .0, c .before .before .before .before .before .before .before .before .before .before .put-head .ensures .1), (omega (arith, c .before .before .before .before .before .before .before .before .before .before .before .before .meet .ensures .few (S .0) (S .1), S .1 .nodes), c .before .before .before .before .before .before .before .before .before .before .before .before .meet .ensures .room ∙ c .before .before .before .before .before .before .before .before .before .before .before .before .before .before .before .before .before .loop .inv .2))
 
-enum-told-2 : tie.Need-enum-told-2 Inv-loop μ-loop
-enum-told-2 c = search needs
+add-i-2 : tie.Need-add-i-2 Inv-loop μ-loop
+add-i-2 c = record { fits = omega (arith, c .before .before .before .before .before .before .before .before .before .before .before .before .before .before .before .before .before .before .before .before .before .before .before .before .pre .0 .2, c .before .before .before .before .before .before .before .before .before .before .before .before .before .before .before .before .before .before .before .loop-test .taken) }
 
-same-length-2 : tie.Need-same-length-2 Inv-loop μ-loop
-same-length-2 c = search needs
+loop-less-2 : tie.Need-loop-less-2 Inv-loop μ-loop
+loop-less-2 c = omega (arith, c .before .before .before .before .before .before .before .before .before .before .before .before .before .before .before .before .before .before .before .loop-test .taken)
 
-returns-2 : tie.Need-returns-2 Inv-loop μ-loop
-returns-2 c = search needs
-
-enum-known-i : tie.Need-enum-known-i Inv-loop μ-loop
-enum-known-i c = search needs
-
-slice-aggregate-put-line : tie.Need-slice-aggregate-put-line Inv-loop μ-loop
-slice-aggregate-put-line c = search needs
-
-cast-put-line : tie.Need-cast-put-line Inv-loop μ-loop
-cast-put-line c = search needs
-
-cast-put-line-2 : tie.Need-cast-put-line-2 Inv-loop μ-loop
-cast-put-line-2 c = search needs
-
-cast-put-line-3 : tie.Need-cast-put-line-3 Inv-loop μ-loop
-cast-put-line-3 c = search needs
-
-put-line-requires : tie.Need-put-line-requires Inv-loop μ-loop
-put-line-requires c κs = search needs
-
-wrapping-add-u16-requires : tie.Need-wrapping-add-u16-requires Inv-loop μ-loop
-wrapping-add-u16-requires c κs = search needs
-
-loop-less : tie.Need-loop-less Inv-loop μ-loop
-loop-less c = search needs
-
-loop-again : tie.Need-loop-again Inv-loop μ-loop
-loop-again c = search needs
-
-same-length-3 : tie.Need-same-length-3 Inv-loop μ-loop
-same-length-3 c = search needs
-
-returns-3 : tie.Need-returns-3 Inv-loop μ-loop
-returns-3 c = search needs
+loop-again-2 : tie.Need-loop-again-2 Inv-loop μ-loop
+loop-again-2 c = (c .before .before .put-pairs .ensures .0, c .before .before .put-pairs .ensures .1, c .before .before .before .before .before .before .before .before .before .before .before .before .before .before .before .meet .ensures .room ∙ c .before .before .before .before .before .before .before .before .before .before .before .before .before .before .before .before .before .before .before .before .loop .inv .2, c .before .before .before .before .before .before .before .before .before .before .before .before .before .put-head .ensures .1)
 
 pub put-steps-spec : {M : Type 1} → statement M
 put-steps-spec =
@@ -78,23 +47,18 @@ put-steps-spec =
     (tie.spec
     Inv-loop
     μ-loop
+    (λ c. search needs)
     loop-holds
-    sub-left
-    next-step-requires
-    enum-told
-    same-length
-    returns
-    enum-told-2
-    same-length-2
-    returns-2
-    enum-known-i
-    slice-aggregate-put-line
-    cast-put-line
-    cast-put-line-2
-    cast-put-line-3
-    put-line-requires
-    wrapping-add-u16-requires
-    loop-less
-    loop-again
-    same-length-3
-    returns-3)
+    element-copy-out-if1
+    (λ c. search needs)
+    (λ c. search needs)
+    (λ c. search needs)
+    meet-requires
+    put-head-requires
+    put-alone-requires
+    put-pairs-requires
+    add-i-2
+    loop-less-2
+    loop-again-2
+    (λ c. search needs)
+    (λ c. search needs))

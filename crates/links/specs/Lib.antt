@@ -1,3 +1,0 @@
--- What the links between prefixes promise.
-pub mod Links
-pub mod Classes

@@ -1,0 +1,3 @@
+-- What the pass over the rows notes, marks and answers.
+pub mod Kept
+pub mod Pass
