@@ -1,5 +1,3 @@
--- How answers are packed, what the walk answers, that only one packed answer fits each entry, and that a host can take each apart.
-pub mod Packs
+-- What the walk answers, and that only one packed answer fits each entry.
 pub mod Nodes
 pub mod Once
-pub mod Fields

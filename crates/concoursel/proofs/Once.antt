@@ -10,8 +10,8 @@ use Rattle.operations.proofs.RowOnce.{listing-once, waiting-once}
 use Rattle.operations.specs.TakeBack.{TakeBack}
 use Rattle.operations.proofs.FirstOnce.{first-once}
 use Rattle.operations.proofs.TakeBackOnce.{take-back-once}
-use Rattle.concoursel.specs.Packed.{PackedStep, PackedNumber, PackedLent, PackedBoth, PackedFirst, PackedNode, PackedBoth.packed, PackedFirst.packed, PackedNode.packed}
-use Rattle.concoursel.proofs.Packs.{packed-step-once, packed-number-once, packed-lent-once}
+use Rattle.packing.specs.Packed.{PackedStep, PackedNumber, PackedLent, PackedBoth, PackedFirst, PackedNode, PackedBoth.packed, PackedFirst.packed, PackedNode.packed}
+use Rattle.packing.proofs.Packs.{packed-step-once, packed-number-once, packed-lent-once}
 
 module _ (s : List ℕ) where
   pub forward-entry-once : {p q m r r′ : ℕ} {b b′ : List ℕ} → PackedStep (ForwardStep s p q m) r b → PackedStep (ForwardStep s p q m) r′ b′ → (r ≡ r′) × (b ≡ b′)

@@ -77,11 +77,9 @@ module _ (A : List ℕ) (n : Node) (few : n ≤ node-limit) (F E : List ℕ) (H 
       let p = first-part t ts L in with-line (res a t) ts (i + 1 + size t) (omega arith) (rw (l .kind, p .0) at (W .ends)) (rw (l .kind, l .done, p .1) at (W .keys))
       (λ y. (y, rw (l .kind) at (W .form), l .arg (omega arith), M .0)) (M .3)
 
--- From node i on the rows are the same.
-pub record Same (i : Node) (F E : List ℕ) (H : List Bool) (F′ E′ : List ℕ) (H′ : List Bool) : Type 0 where
-  pub forms : (j : Node) → i ≤ j → getD F′ j 0 ≡ getD F j 0
-  pub ends : (j : Node) → i ≤ j → getD E′ j 0 ≡ getD E j 0
-  pub keys : (j : Node) → i ≤ j → getD H′ j false ≡ getD H j false
+-- from node i on the rows are the same
+abbrev pub Same : Node → List ℕ → List ℕ → List Bool → List ℕ → List ℕ → List Bool → Type 0
+Same i F E H F′ E′ H′ = (j : Node) → i ≤ j → (getD F′ j 0 ≡ getD F j 0) × (getD E′ j 0 ≡ getD E j 0) × (getD H′ j false ≡ getD H j false)
 
 -- The lines from node i to n are settled, in these rows and in all that are the same from there on; those before are as they were noted.
 pub record Settling (t : Term) (A : List ℕ) (n : Node) (F E : List ℕ) (H : List Bool) (i end : Node) (held : Bool) : Type 0 where
@@ -104,19 +102,14 @@ module _ (t : Term) (A : List ℕ) (n : Node) (F E : List ℕ) (H : List Bool) (
     few = S .few;
     lines = λ j l. let d : j ≢ i = λ q. omega arith in line-kept j (getD-set-other F i j f 0 d) refl (getD-set-other H i j h false d) (S .lines j (omega arith));
     ahead = λ l. (sym (getD-set-same E i e 0 le), sym (getD-set-same H i h false lh));
-    laid = λ F′ E′ H′ R. settled A n (S .few) F E H i end held (S .ahead) w v F′ E′ H′
-        (rw (R .forms i (omega arith), R .ends i (omega arith), R .keys i (omega arith), getD-set-same F i f 0 lf, getD-set-same E i e 0 le, getD-set-same H i h false lh, ← z) W) (pending i t) (S .lines i (omega arith))
-        (rw (pending-next i t) at (S .laid F E H (record { forms = λ j l. refl; ends = λ j l. refl; keys = λ j l. refl })))
-        (rw (pending-next i t) at (S .laid F′ E′ H′ (record {
-          forms = λ j l. R .forms j (omega arith) ∙ getD-set-other F i j f 0 (λ q. omega arith);
-          ends = λ j l. R .ends j (omega arith) ∙ getD-set-other E i j e 0 (λ q. omega arith);
-          keys = λ j l. R .keys j (omega arith) ∙ getD-set-other H i j h false (λ q. omega arith);
-        })));
+    laid = λ F′ E′ H′ R. let r = R i (omega arith) in settled A n (S .few) F E H i end held (S .ahead) w v F′ E′ H′
+        (rw (r .0, r .1, r .2, getD-set-same F i f 0 lf, getD-set-same E i e 0 le, getD-set-same H i h false lh, ← z) W) (pending i t) (S .lines i (omega arith))
+        (rw (pending-next i t) at (S .laid F E H (λ j l. (refl, refl, refl))))
+        (rw (pending-next i t) at (S .laid F′ E′ H′ (λ j l. let d : j ≢ i = λ q. omega arith in let q = R j (omega arith) in
+        (q .0 ∙ getD-set-other F i j f 0 d, q .1 ∙ getD-set-other E i j e 0 d, q .2 ∙ getD-set-other H i j h false d))));
   }
 
 -- every node is settled
 pub all-laid : (t : Term) (A : List ℕ) (n : Node) (F E : List ℕ) (H : List Bool) (i : Node) → i ≡ 0 → (end : Node) (held : Bool) → Settling t A n F E H i end held → (n ≡ size t) × Laid F A E 0 t
 unfolding pending
-all-laid t A n F E H i z end held S =
-    let w = rw z at (S .laid F E H (record { forms = λ j l. refl; ends = λ j l. refl; keys = λ j l. refl })) in
-    (omega (arith, w .3), w .0)
+all-laid t A n F E H i z end held S = let w = rw z at (S .laid F E H (λ j l. (refl, refl, refl))) in (omega (arith, w .3), w .0)

@@ -44,10 +44,18 @@ pub const BOTH: u8 = 5;
 
 pub const HIDDEN: u8 = 6;
 
+// Where the second part of node n begins: behind what begins at the next node.
+pub fn second_part(n: usize, ends: &[u16; NODES]) -> usize
+    requires { ⌜ (n + 1 < node-limit) × (length (now ends) ≡ node-limit) ⌝ }
+    ensures { λ r. ⌜ r ≡ getD (now (ends .entry)) (n + 1) 0 ⌝ }
+{
+    wide(ends[n + 1])
+}
+
 // The byte after the place `at`; 0 if that is the last.
 fn byte_after(bytes: &[u8], at: usize) -> u8
     requires { ⌜ at < length (now bytes) ⌝ }
-    ensures { λ r. ⌜ (at + 1 < length (now (bytes .entry)) → r ≡ getD (now (bytes .entry)) (at + 1) 0) ⌝ }
+    ensures { λ r. ⌜ (at + 1 < length (now (bytes .entry)) → r ≡ getD (now (bytes .entry)) (at + 1) 0) × (at < length (now (bytes .entry))) ⌝ }
 {
     let next = at + 1;
     if next < bytes.len() {
@@ -56,24 +64,15 @@ fn byte_after(bytes: &[u8], at: usize) -> u8
     0
 }
 
-// Notes the line of node n.
-fn note(
-    n: usize,
-    kind: u8,
-    arg: u8,
-    done: bool,
-    forms: &mut [u8; NODES],
-    args: &mut [u8; NODES],
-    holds: &mut [bool; NODES],
-)
-    requires { ⌜ n < node-limit ⌝ }
-    ensures { λ _. ⌜ now (forms .exit) ≡ set (now (forms .entry)) n kind ⌝ }
-    ensures { λ _. ⌜ now (args .exit) ≡ set (now (args .entry)) n arg ⌝ }
-    ensures { λ _. ⌜ now (holds .exit) ≡ set (now (holds .entry)) n done ⌝ }
+// Writes of node i its kind or form, and whether it is done or holds a key.
+fn write(i: usize, form: u8, held: bool, forms: &mut [u8; NODES], holds: &mut [bool; NODES])
+    requires { ⌜ i < node-limit ⌝ }
+    ensures { λ _. ⌜ now (forms .exit) ≡ set (now (forms .entry)) i form ⌝ }
+    ensures { λ _. ⌜ now (holds .exit) ≡ set (now (holds .entry)) i held ⌝ }
+    ensures { λ _. ⌜ i < node-limit ⌝ }
 {
-    forms[n] = kind;
-    args[n] = arg;
-    holds[n] = done;
+    forms[i] = form;
+    holds[i] = held;
 }
 
 // Reads the record and notes the kind of each node, the byte after it, which is its action or name if it has one, and whether it is done:
@@ -90,11 +89,10 @@ fn note_all(
 {
     let mut due = [DEPTH; DUE];
     let mut many: usize = 1;
-    let mut left = NODES;
     let mut at: usize = 0;
     let mut n: usize = 0;
     while 0 < many {
-        match pass_node(bytes, at, left, many, &mut due) {
+        match pass_node(bytes, at, NODES - n, many, &mut due) {
             Head::Refused(c) => {
                 return Number::Refused(c);
             }
@@ -103,12 +101,12 @@ fn note_all(
                 children,
                 next,
             } => {
-                let kind = bytes[at];
                 let arg = byte_after(bytes, at);
+                let kind = bytes[at];
                 let key = key_at(bytes, at);
-                note(n, kind, arg, key != NOT_DONE, forms, args, holds);
+                write(n, kind, key != NOT_DONE, forms, holds);
+                args[n] = arg;
                 many = many - 1 + children;
-                left -= 1;
                 at = next;
                 n += 1;
             }
@@ -195,26 +193,6 @@ fn end_of(leaf: bool, two: bool, next: u16, end: u16, last: u16) -> u16
     end
 }
 
-// Writes the line of node i.
-fn write(
-    i: usize,
-    form: u8,
-    end: u16,
-    held: bool,
-    forms: &mut [u8; NODES],
-    ends: &mut [u16; NODES],
-    holds: &mut [bool; NODES],
-)
-    requires { ⌜ i < node-limit ⌝ }
-    ensures { λ _. ⌜ now (forms .exit) ≡ set (now (forms .entry)) i form ⌝ }
-    ensures { λ _. ⌜ now (ends .exit) ≡ set (now (ends .entry)) i end ⌝ }
-    ensures { λ _. ⌜ now (holds .exit) ≡ set (now (holds .entry)) i held ⌝ }
-{
-    forms[i] = form;
-    ends[i] = end;
-    holds[i] = held;
-}
-
 // Settles the noted lines of n nodes, from the last to the first. `end` and `held` are what was written at the node settled before, where the
 // first part of node i begins. A node without a second part reads some line in its place and takes nothing from it.
 fn settle(n: usize, forms: &mut [u8; NODES], ends: &mut [u16; NODES], holds: &mut [bool; NODES])
@@ -240,7 +218,8 @@ fn settle(n: usize, forms: &mut [u8; NODES], ends: &mut [u16; NODES], holds: &mu
         let form = form_of(leaf, choice, two, kind == RESTRICTION, sides, done, held);
         held = holds_of(leaf, two, done, held, beside);
         end = end_of(leaf, two, next, end, ends[second]);
-        write(i, form, end, held, forms, ends, holds);
+        write(i, form, held, forms, holds);
+        ends[i] = end;
     }
 }
 

@@ -1,12 +1,13 @@
 -- What the set functions compute, label by label, from bits of words.
-use mathlib.Core.Path.{_≡_, refl, sym}
+use mathlib.Core.Path.{_≡_, refl, sym, _∙_}
 use mathlib.Core.Logic.{_⊎_, inl, inr, ⊎-elim, _≢_, _↔_}
-use Prim.Native.Nat.{ℕ, zero, suc, _+_, _-_, _*_, _<_, _/_, _%_, _^_}
+use mathlib.Core.Bool.{cond}
+use Prim.Native.Nat.{ℕ, zero, suc, _+_, _*_, _<_, _/_, _%_, _^_}
 use native.Mathlib.Decide.{ℕ-discrete, decLt}
 use native.Mathlib.Omega.{arith}
 use borrow.Author.Tests.{eq-eqb, ne-eqb}
 use lib.Bits.{bitAnd, bitOr, bitXor, and-le-l, or-lt}
-use lib.Dec.{eqb}
+use lib.Dec.{eqb, ltb}
 use Rattle.ccsk.specs.Term.{Co, On, Channel}
 use Rattle.shared.specs.Tells.{Tells}
 use Rattle.keyset.specs.Set.{bit, power}
@@ -22,6 +23,14 @@ by-place P a b c d f (suc zero) = b
 by-place P a b c d f (suc (suc zero)) = c
 by-place P a b c d f (suc (suc (suc zero))) = d
 by-place P a b c d f (suc (suc (suc (suc i)))) = f i
+
+-- a test of equality tells what the equation decides
+tells : {P : Type 0} (x k : ℕ) → (x ≡ k → P) → (x ≢ k → ¬ P) → Tells (eqb x k) P
+tells {P} x k f g = pick (ℕ-discrete x k)
+  where
+    pick : Dec (x ≡ k) → Tells (eqb x k) P
+    pick (yes e) = rw (eq-eqb x k e) (f e)
+    pick (no e) = rw (ne-eqb x k e) (g e)
 
 -- every label of a set is below 256
 shows-low : (s : Labels) (l : ℕ) → Shows s l → l < 256
@@ -60,59 +69,53 @@ module _ (s : Labels) (p q : ℕ) (e : p ≡ even (s .c)) (f : q ≡ even (s .a)
   abbrev turned : Labels
   turned = record { a = p; b = s .d; c = q; d = s .b }
 
-  turned-word : (i j : ℕ) → i < 4 → j < 64 → (bit (word turned i) j ≡ 1) ↔ ((bit (word s ((i + 2) % 4)) j ≡ 1) × ((64 * i + j) % 128 ≢ 0))
-  turned-word zero j h g = let v = bit-even j (s .c) in rw e (λ z. let y = v .0 z in (y .0, λ x. y .1 (omega arith)), λ z. v .1 (z .0, λ x. z .1 (omega arith)))
-  turned-word (suc zero) j h g = (λ z. (z, λ x. omega arith), λ z. z .0)
-  turned-word (suc (suc zero)) j h g = let v = bit-even j (s .a) in rw f (λ z. let y = v .0 z in (y .0, λ x. y .1 (omega arith)), λ z. v .1 (z .0, λ x. z .1 (omega arith)))
-  turned-word (suc (suc (suc zero))) j h g = (λ z. (z, λ x. omega arith), λ z. z .0)
-  turned-word (suc (suc (suc (suc i)))) j h g = absurd (omega arith)
+  turned-word : (i l : ℕ) → l < 256 → l / 64 ≡ i → (bit (word turned i) (l % 64) ≡ 1) ↔ ((bit (word s ((i + 2) % 4)) (l % 64) ≡ 1) × (l % 128 ≢ 0))
+  turned-word zero l h g = let v = bit-even (l % 64) (s .c) in rw e (λ z. (v .0 z .0, λ x. v .0 z .1 (omega arith)), λ z. v .1 (z .0, λ x. z .1 (omega arith)))
+  turned-word (suc zero) l h g = (λ z. (z, λ x. omega arith), λ z. z .0)
+  turned-word (suc (suc zero)) l h g = let v = bit-even (l % 64) (s .a) in rw f (λ z. (v .0 z .0, λ x. v .0 z .1 (omega arith)), λ z. v .1 (z .0, λ x. z .1 (omega arith)))
+  turned-word (suc (suc (suc zero))) l h g = (λ z. (z, λ x. omega arith), λ z. z .0)
+  turned-word (suc (suc (suc (suc i)))) l h g = absurd (omega arith)
 
-  -- the complement stands two words on or back, at the same bit
-  co-place : (l k : ℕ) → Co l k → (l < 256) × (l % 128 ≢ 0) × (k / 64 ≡ (l / 64 + 2) % 4) × (k % 64 ≡ l % 64)
-  co-place l k (inl c) = (omega arith, λ z. omega arith, omega arith, omega arith)
-  co-place l k (inr c) = (omega arith, λ z. omega arith, omega arith, omega arith)
+  -- every label but tau and 128 has one complement, which stands two words on or back at the same bit
+  co-label : (l k : ℕ) → Co l k ↔ ((l < 256) × (l % 128 ≢ 0) × (k ≡ (l + 128) % 256))
+  co-label l k = (λ c. ⊎-elim (λ z. (omega arith, λ x. omega arith, omega arith)) (λ z. (omega arith, λ x. omega arith, omega arith)) c, λ z. pick z (decLt l 128))
+    where
+      pick : (l < 256) × (l % 128 ≢ 0) × (k ≡ (l + 128) % 256) → Dec (l < 128) → Co l k
+      pick z (yes h) = inl ((omega arith, omega arith), omega arith)
+      pick z (no h) = inr ((omega arith, omega arith), omega arith)
 
-  -- every label but tau and 128 has a complement
-  co-of : (l : ℕ) → l < 256 → l % 128 ≢ 0 → Dec (l < 128) → (k : ℕ) × Co l k
-  co-of l h g (yes z) = (l + 128, inl ((omega arith, omega arith), refl))
-  co-of l h g (no z) = (l - 128, inr ((omega arith, omega arith), omega arith))
+  -- so a label is in the turned set if its complement is in the set
+  turned-label : (l : ℕ) → l < 256 → Shows turned l ↔ (Shows s ((l + 128) % 256) × (l % 128 ≢ 0))
+  unfolding Shows
+  turned-label l h =
+      let p : (l + 128) % 256 / 64 ≡ (l / 64 + 2) % 4 = omega arith in
+      let q : (l + 128) % 256 % 64 ≡ l % 64 = omega arith in
+      rw (p, q) (turned-word (l / 64) l h refl)
 
   pub set-complements : Exactly turned (λ l. (k : ℕ) × Co l k × Shows s k)
-  unfolding Shows
-  set-complements = record { at = λ l. (to l, from l) }
-    where
-      to : (l : ℕ) → Shows turned l → (k : ℕ) × Co l k × Shows s k
-      to l z =
-          let h = shows-low turned l z in
-          let y = turned-word (l / 64) (l % 64) (omega arith) (omega arith) .0 z in
-          let k = co-of l h (λ x. y .1 (omega arith)) (decLt l 128) in
-          let o = co-place l (k .0) (k .1) in
-          (k .0, k .1, rw (o .2, o .3) (y .0))
+  set-complements = record {
+    at = λ l. (
+      λ z. let h = shows-low turned l z in let y = turned-label l h .0 z in ((l + 128) % 256, co-label l _ .1 (h, y .1, refl), y .0),
+      λ z. let o = co-label l (z .0) .0 (z .1) in turned-label l (o .0) .1 (rw (o .2) at (z .2), o .1),
+    );
+  }
 
-      from : (l : ℕ) → (k : ℕ) × Co l k × Shows s k → Shows turned l
-      from l z = let o = co-place l (z .0) (z .1) in turned-word (l / 64) (l % 64) (omega (arith, o .0)) (omega arith) .1 (rw (o .2, o .3) at (z .2), λ x. o .1 (omega arith))
-
--- the word of one label: its bit at the label's place, 0 at another
-pub single-here : (i x : ℕ) → x / 64 ≡ i → (1 * 2 ^ (x % 64)) % 2 ^ 64 ≡ single i x
-unfolding single
-single-here i x e = rw (eq-eqb (x / 64) i e) (one-shifted (x % 64) (omega arith))
-
-pub single-elsewhere : (i x : ℕ) → x / 64 ≢ i → 0 ≡ single i x
-unfolding single
-single-elsewhere i x f = rw (ne-eqb (x / 64) i f)
-
--- its only bit is that of the label
+-- the only bit of the word of one label is that of the label
 bit-single : (i x j : ℕ) → (bit (single i x) j ≡ 1) ↔ ((x / 64 ≡ i) × (x % 64 ≡ j))
+unfolding single
 bit-single i x j = pick (ℕ-discrete (x / 64) i)
   where
     pick : Dec (x / 64 ≡ i) → (bit (single i x) j ≡ 1) ↔ ((x / 64 ≡ i) × (x % 64 ≡ j))
-    pick (yes e) = let v = bit-power (x % 64) j in rw (sym (single-here i x e), one-shifted (x % 64) (omega arith)) (λ z. (e, sym (v .0 z)), λ z. v .1 (sym (z .1)))
-    pick (no f) = rw (sym (single-elsewhere i x f)) (λ z. no-bit j z, λ z. absurd (f (z .0)))
+    pick (yes e) = let v = bit-power (x % 64) j in rw (eq-eqb (x / 64) i e) (λ z. (e, sym (v .0 z)), λ z. v .1 (sym (z .1)))
+    pick (no f) = rw (ne-eqb (x / 64) i f) (λ z. no-bit j z, λ z. absurd (f (z .0)))
 
 -- a set whose four words are those of one label
-module _ (r : Labels) (x : ℕ) (h : x < 256) (a : r .a ≡ single 0 x) (b : r .b ≡ single 1 x) (c : r .c ≡ single 2 x) (d : r .d ≡ single 3 x) where
+module _ (r : Labels) (x w : ℕ) (h : x < 256) (e : w ≡ (1 * 2 ^ (x % 64)) % 2 ^ 64)
+    (a : r .a ≡ cond (eqb (x / 64) 0) w 0) (b : r .b ≡ cond (eqb (x / 64) 1) w 0) (c : r .c ≡ cond (eqb (x / 64) 2) w 0) (d : r .d ≡ cond (eqb (x / 64) 3) w 0) where
   only-word : (i : ℕ) → word r i ≡ single i x
-  only-word = by-place (λ i. word r i ≡ single i x) a b c d (λ i. single-elsewhere (suc (suc (suc (suc i)))) x (λ e. omega arith))
+  unfolding single
+  only-word = let z = e ∙ one-shifted (x % 64) (omega arith) in
+      by-place (λ i. word r i ≡ single i x) (rw z at a) (rw z at b) (rw z at c) (rw z at d) (λ i. rw (ne-eqb (x / 64) (suc (suc (suc (suc i)))) (λ q. omega arith)))
 
   pub set-only : Exactly r (λ l. l ≡ x)
   unfolding Shows
@@ -196,21 +199,14 @@ module _ (s t : Labels) (a : s .a < 2 ^ 64) (b : s .b < 2 ^ 64) (c : s .c < 2 ^ 
 
   pub apart-tells : Tells (eqb (any shared) 0) (Apart)
   unfolding Shows
-  apart-tells = pick (ℕ-discrete (any shared) 0)
-    where
-      pick : Dec (any shared ≡ 0) → Tells (eqb (any shared) 0) (Apart)
-      pick (yes e) = rw (eq-eqb (any shared) 0 e) (λ l z. no-bit (l % 64) (rw e at (any-bit shared (l % 64) .1 (l / 64, bit-shared (l / 64) (l % 64) .1 z))))
-      pick (no f) = rw (ne-eqb (any shared) 0 f) (λ A. meet f A)
+  apart-tells = tells (any shared) 0 (λ e l z. no-bit (l % 64) (rw e at (any-bit shared (l % 64) .1 (l / 64, bit-shared (l / 64) (l % 64) .1 z)))) (λ f A. meet f A)
 
--- a place known by an equation
-pub word-at : (s : Labels) (k i : ℕ) → i ≡ k → word s k ≡ word s i
-word-at s k i e = rw e
+-- the word that the tests of `has` choose, and a test of its bit
+module _ (s : Labels) (l w : ℕ) (h : l < 256) (e : w ≡ cond (ltb (l / 64) 2) (cond (ltb (l / 64) 1) (s .a) (s .b)) (cond (ltb (l / 64) 3) (s .c) (s .d))) where
+  word-at : w ≡ word s (l / 64)
+  word-at = e ∙ by-place (λ i. i < 4 → cond (ltb i 2) (cond (ltb i 1) (s .a) (s .b)) (cond (ltb i 3) (s .c) (s .d)) ≡ word s i)
+      (λ z. refl) (λ z. refl) (λ z. refl) (λ z. refl) (λ i z. absurd (omega arith)) (l / 64) (omega arith)
 
--- a test of the word's bit is a test of the label
-pub has-tells : (s : Labels) (l w : ℕ) → w ≡ word s (l / 64) → Tells (eqb (w / 2 ^ (l % 64) % 2) 1) (Shows s l)
-unfolding Shows
-has-tells s l w e = rw (bit-shifted (l % 64) w, e) (pick (ℕ-discrete (bit (word s (l / 64)) (l % 64)) 1))
-  where
-    pick : Dec (bit (word s (l / 64)) (l % 64) ≡ 1) → Tells (eqb (bit (word s (l / 64)) (l % 64)) 1) (bit (word s (l / 64)) (l % 64) ≡ 1)
-    pick (yes z) = rw (eq-eqb (bit (word s (l / 64)) (l % 64)) 1 z) z
-    pick (no z) = rw (ne-eqb (bit (word s (l / 64)) (l % 64)) 1 z) z
+  pub has-tells : Tells (eqb (w / 2 ^ (l % 64) % 2) 1) (Shows s l)
+  unfolding Shows
+  has-tells = rw (bit-shifted (l % 64) w, word-at) (tells (bit (word s (l / 64)) (l % 64)) 1 (λ z. z) (λ z. z))

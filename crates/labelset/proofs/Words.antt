@@ -5,7 +5,7 @@ use Prim.Native.Nat.{ℕ, zero, suc, _+_, _-_, _*_, _<_, _/_, _%_, _^_, min, max
 use native.Mathlib.Decide.{ℕ-discrete}
 use native.Mathlib.Nat.{one-mul, zero-add}
 use native.Mathlib.Omega.{arith}
-use lib.Bits.{bitAnd, bitOr, bitXor, differ, and-step, or-step, xor-step}
+use lib.Bits.{bitAnd, bitOr, bitXor, differ, and-step, or-step, xor-step, and-mask}
 use lib.Dec.{lit<}
 use lib.Pow.{shl-exact}
 use Rattle.keyset.specs.Set.{bit, power}
@@ -29,19 +29,11 @@ one-of x y h g = (λ e. pick (ℕ-discrete x 1) e, λ e. ⊎-elim (λ z. omega a
     pick (yes z) e = inl z
     pick (no z) e = inr (omega arith)
 
-differ-two : (x y : ℕ) → x < 2 → y < 2 → differ x y < 2
-differ-two zero y h g = g
-differ-two (suc zero) zero h g = omega arith
-differ-two (suc zero) (suc y) h g = omega arith
-differ-two (suc (suc x)) y h g = absurd (omega arith)
-
--- the first digit is 1 and the second is not
-left-over : (x y : ℕ) → x < 2 → y < 2 → (differ x (min x y) ≡ 1) ↔ ((x ≡ 1) × (y ≢ 1))
-left-over zero y h g = (λ e. absurd (omega arith), λ z. absurd (omega arith))
-left-over (suc zero) zero h g = (λ e. (refl, λ z. omega arith), λ z. refl)
-left-over (suc zero) (suc zero) h g = (λ e. absurd (omega arith), λ z. absurd (z .1 refl))
-left-over (suc (suc x)) y h g = absurd (omega arith)
-left-over (suc zero) (suc (suc y)) h g = absurd (omega arith)
+-- how far two numbers are apart, for `omega`
+differ-is : (x y : ℕ) → differ x y ≡ (x - y) + (y - x)
+differ-is zero y = omega arith
+differ-is (suc x) zero = omega arith
+differ-is (suc x) (suc y) = omega (arith, differ-is x y)
 
 module _ (i v w : ℕ) where
   pub bit-or : (bit (bitOr v w) i ≡ 1) ↔ ((bit v i ≡ 1) ⊎ (bit w i ≡ 1))
@@ -55,7 +47,10 @@ module _ (i v w : ℕ) where
 
   -- the bits of v without those of w
   pub bit-without : (bit (bitXor v (bitAnd v w)) i ≡ 1) ↔ ((bit v i ≡ 1) × (bit w i ≢ 1))
-  bit-without = rw (bitwise-bit bitXor differ differ-two xor-step i v (bitAnd v w), both-bits) (left-over (bit v i) (bit w i) (bit-two i v) (bit-two i w))
+  bit-without =
+      let h = bit-two i v in
+      let g = bit-two i w in
+      rw (bitwise-bit bitXor differ (λ x y h g. omega (arith, differ-is x y)) xor-step i v (bitAnd v w), both-bits, differ-is) (λ e. (omega arith, λ z. omega arith), λ z. omega arith)
 
 pub no-bit : {A : Type 0} (j : ℕ) → bit 0 j ≡ 1 → A
 no-bit j e = absurd (omega (arith, empty-bit j))
@@ -70,22 +65,6 @@ some-bit (suc n) w h f = pick (ℕ-discrete (w % 2) 1) (λ g. some-bit n (w / 2)
     pick (yes e) more = (0, omega arith, e)
     pick (no g) more = let z = more (λ e. f (omega arith)) in (suc (z .0), omega (arith, z .1), z .2)
 
-power-pos : (n : ℕ) → 0 < power n
-unfolding power
-power-pos zero = omega arith
-power-pos (suc n) = omega (arith, power-pos n)
-
--- the number below a power of two has all bits
-ones : (n i : ℕ) → i < n → bit (power n - 1) i ≡ 1
-unfolding bit power
-ones zero i h = absurd (omega arith)
-ones (suc n) zero h = omega (arith, power-pos n)
-ones (suc n) (suc i) h = let e : (2 * power n - 1) / 2 ≡ power n - 1 = omega (arith, power-pos n) in rw e (ones n i (omega arith))
-
-pub full-word : (i : ℕ) → i < 64 → bit 18446744073709551615 i ≡ 1
-unfolding power
-full-word i h = ones 64 i h
-
 -- 1 shifted by i is the value of bit i, and has that bit alone
 pub one-shifted : (i : ℕ) → i < 64 → (1 * 2 ^ i) % 2 ^ 64 ≡ power i
 one-shifted i h = shl-exact {a = 1} 1 i 64 (lit< tt) (omega arith) ∙ one-mul (2 ^ i) ∙ sym (power-pow i)
@@ -96,6 +75,13 @@ bit-power i j = pick (ℕ-discrete j i)
     pick : Dec (j ≡ i) → (bit (power i) j ≡ 1) ↔ (j ≡ i)
     pick (yes e) = (λ z. e, λ z. rw e (rw (zero-add (power i)) at (bit-set i 0 (empty-bit i))))
     pick (no f) = (λ z. absurd (omega (arith, rw (zero-add (power i)) at (bit-kept i j 0 (empty-bit i) f), empty-bit j)), λ e. absurd (f e))
+
+-- the greatest word has all its bits: it shares with the value of each bit that bit
+abbrev pub all-ones : ℕ
+all-ones = 18446744073709551615
+
+pub full-word : (i : ℕ) → i < 64 → bit all-ones i ≡ 1
+full-word i h = let e = and-mask (1 * 2 ^ i) 64 ∙ one-shifted i h in bit-and i (1 * 2 ^ i) all-ones .0 (rw e (bit-power i i .1 refl)) .1
 
 -- without the lowest bit
 pub bit-even : (j w : ℕ) → (bit (even w) j ≡ 1) ↔ ((bit w j ≡ 1) × (j ≢ 0))

@@ -1,10 +1,11 @@
 // A set of labels: one bit for each of the 256, in four words. Each contract says which labels are in the result.
 ghost use mathlib.Core.Path.{_≡_};
 ghost use mathlib.Core.Logic.{_⊎_};
+ghost use mathlib.Core.Bool.{cond};
 ghost use Prim.Native.Nat.{ℕ, _<_};
 ghost use Rattle.ccsk.specs.Term.{Co, On, Channel};
 ghost use Rattle.shared.specs.Tells.{Tells};
-ghost use Rattle.labelset.specs.Set.{word, Shows, Exactly, single, even};
+ghost use Rattle.labelset.specs.Set.{Shows, Exactly, even};
 
 // Label l is bit l % 64 of word l / 64: names stand in a and b, their co-names at the same bits of c and d.
 pub struct Labels {
@@ -41,18 +42,18 @@ pub fn full() -> Labels
     }
 }
 
-// The word at place i. Tests of an order become moves, tests of equality would become a jump through a table.
-fn word_of(s: Labels, i: u64) -> u64
-    requires { ⌜ i < 4 ⌝ }
-    ensures { λ r. ⌜ r ≡ word s i ⌝ }
+// The word at a place of the set, by whether the place is below 2, below 1 and below 3. Tests of an order become moves, tests of equality
+// would become a jump through a table.
+fn word_of(two: bool, one: bool, three: bool, s: Labels) -> u64
+    ensures { λ r. ⌜ r ≡ cond two (cond one (s .a) (s .b)) (cond three (s .c) (s .d)) ⌝ }
 {
-    if i < 2 {
-        if i < 1 {
+    if two {
+        if one {
             return s.a;
         }
         return s.b;
     }
-    if i < 3 {
+    if three {
         return s.c;
     }
     s.d
@@ -63,7 +64,8 @@ pub fn has(s: Labels, label: u8) -> bool
     ensures { λ r. ⌜ Tells r (Shows s label) ⌝ }
 {
     let l = label as u64;
-    let w = word_of(s, l / 64);
+    let i = l / 64;
+    let w = word_of(i < 2, i < 1, i < 3, s);
     (w >> (l % 64)) % 2 == 1
 }
 
@@ -106,26 +108,28 @@ pub fn complements(s: Labels) -> Labels
     }
 }
 
-// The word at place i of the set with one label: its bit if the label stands there, else no bit.
-fn single_at(i: u64, label: u8) -> u64
-    ensures { λ r. ⌜ r ≡ single i label ⌝ }
+// A word, or 0 if the test fails.
+fn word_if(test: bool, w: u64) -> u64
+    ensures { λ r. ⌜ r ≡ cond test w 0 ⌝ }
 {
-    let l = label as u64;
-    if l / 64 == i {
-        return 1u64 << (l % 64);
+    if test {
+        return w;
     }
     0
 }
 
-// The set with one label.
+// The set with one label: its bit in the word where the label stands, else no bit.
 pub fn only(label: u8) -> Labels
     ensures { λ r. ⌜ Exactly r (λ l. l ≡ label) ⌝ }
 {
+    let l = label as u64;
+    let i = l / 64;
+    let bit = 1u64 << (l % 64);
     Labels {
-        a: single_at(0, label),
-        b: single_at(1, label),
-        c: single_at(2, label),
-        d: single_at(3, label),
+        a: word_if(i == 0, bit),
+        b: word_if(i == 1, bit),
+        c: word_if(i == 2, bit),
+        d: word_if(i == 3, bit),
     }
 }
 

@@ -1,17 +1,23 @@
 // The lines of a listing. What they say comes from the proved operations; here it is only put in order.
+use crate::out::PIECE;
 use crate::out::SPACE;
 use crate::out::flush;
 use crate::out::put;
+use crate::out::put_field;
 use crate::out::put_number;
+use crate::out::put_piece;
+use crate::out::room;
 use index::index;
 use labels::undo_labels;
 use labelset::FULL;
 use labelset::full;
+use partners::lead;
 use partners::meet;
+use partners::root;
 use reader::NODES;
 use shared::NO_ACTION;
 use shared::Number;
-use shared::wide;
+use shared::narrow;
 use undos::listing::undo_listing;
 use wanted::WANTED;
 use wanted::WORDS;
@@ -27,62 +33,72 @@ ghost use Rattle.index.specs.Whole.{Room};
 ghost use Rattle.wanted.specs.Kept.{Covers};
 
 // A number that an operation answered; the record is read already, so none is refused.
-fn value(given: Number) -> u64 {
+fn value(given: Number) -> u16
+    requires { ⌜ value given < 65536 ⌝ }
+{
     match given {
         Number::Refused(_) => 0,
-        Number::Is(n) => n as u64,
+        Number::Is(n) => n as u16,
     }
 }
 
-// Puts what every line of a step of node i begins with.
-fn put_head(line: &mut [u8], i: usize) -> usize
-    requires { ⌜ length (now line) ≡ 4096 ⌝ }
-    ensures { λ r. ⌜ (r ≤ 4096) × (length (now (line .exit)) ≡ 4096) ⌝ }
+// Puts what every line of a step of node i begins with. It is made once for all of them.
+fn put_head(head: &mut [u8; PIECE], i: usize) -> usize
+    requires { ⌜ (length (now head) ≡ 16) × (i < node-limit) ⌝ }
+    ensures { λ r. ⌜ (r ≤ 16) × (length (now (head .exit)) ≡ 16) ⌝ }
 {
-    let a = put(line, 0, b"forward ");
-    let b = put_number(line, a, i as u64);
-    put(line, b, b" ")
+    let a = put_field(head, 0, b"forward ", narrow(i));
+    put(head, a, b" ")
 }
 
-// The line of a step alone that begins with the first `head` bytes of a text, if the place shows a label.
-fn put_alone(space: &mut [u8], n: usize, line: &[u8], head: usize, label: u8) -> usize
-    requires { ⌜ (n ≤ 4096) × (length (now space) ≡ 4096) × (head ≤ 4096) × (length (now line) ≡ 4096) ⌝ }
+// The line of a step alone that begins with the first k bytes of the head, if the place shows a label.
+fn put_alone(space: &mut [u8], n: usize, head: &[u8; PIECE], k: usize, label: u8) -> usize
+    requires { ⌜ (n ≤ 4096) × (length (now space) ≡ 4096) × (k ≤ 16) × (length (now head) ≡ 16) ⌝ }
     ensures { λ r. ⌜ (r ≤ 4096) × (length (now (space .exit)) ≡ 4096) ⌝ }
 {
     if label == NO_ACTION {
         return n;
     }
-    let a = put(space, n, &line[..head]);
-    let b = put(space, a, b"0 ");
-    let c = put_number(space, b, label as u64);
-    put(space, c, b"\n")
+    let to = room(space, n);
+    let a = put_piece(space, to, head, k);
+    let b = put_field(space, a, b"0 ", label as u16);
+    put(space, b, b"\n")
 }
 
-// A line for each of the first `count` partners, each with tau.
+// The line of a step together with a partner, with tau.
+fn put_pair(space: &mut [u8], n: usize, head: &[u8; PIECE], k: usize, mate: u16) -> usize
+    requires { ⌜ (n ≤ 4096) × (length (now space) ≡ 4096) × (k ≤ 16) × (length (now head) ≡ 16) ⌝ }
+    ensures { λ r. ⌜ (r ≤ 4096) × (length (now (space .exit)) ≡ 4096) ⌝ }
+{
+    let to = room(space, n);
+    let a = put_piece(space, to, head, k);
+    let b = put_number(space, a, mate);
+    put(space, b, b" 0\n")
+}
+
+// A line for each of the first `count` partners.
 fn put_pairs(
     space: &mut [u8],
     n: usize,
-    line: &[u8],
-    head: usize,
+    head: &[u8; PIECE],
+    k: usize,
     mates: &[u16; NODES],
     count: usize,
 ) -> usize
-    requires { ⌜ (n ≤ 4096) × (length (now space) ≡ 4096) × (head ≤ 4096) × (length (now line) ≡ 4096) ⌝ }
+    requires { ⌜ (n ≤ 4096) × (length (now space) ≡ 4096) × (k ≤ 16) × (length (now head) ≡ 16) ⌝ }
     requires { ⌜ (count ≤ node-limit) × (length (now mates) ≡ node-limit) ⌝ }
     ensures { λ r. ⌜ (r ≤ 4096) × (length (now (space .exit)) ≡ 4096) ⌝ }
 {
     let mut at = n;
-    let mut k: usize = 0;
-    while k < count {
-        let a = put(space, at, &line[..head]);
-        let b = put_number(space, a, wide(mates[k]) as u64);
-        at = put(space, b, b" 0\n");
-        k += 1;
+    let mut i: usize = 0;
+    while i < count {
+        at = put_pair(space, at, head, k, mates[i]);
+        i += 1;
     }
     at
 }
 
-// A line for each forward step, in order: a wanted place is met once, and all its partners with it.
+// A line for each forward step, in order: one way leads on from wanted place to wanted place, and each is met once, with all its partners.
 fn put_steps(
     space: &mut [u8],
     n: usize,
@@ -99,8 +115,9 @@ fn put_steps(
     ensures { λ r. ⌜ (r ≤ 4096) × (length (now (space .exit)) ≡ 4096) ⌝ }
 {
     let mut mates = [0u16; NODES];
-    let mut text = [0u8; SPACE];
-    let line: &mut [u8] = &mut text;
+    let mut way = [0u16; NODES];
+    let mut to = root();
+    let mut head = [0u8; PIECE];
     let mut at = n;
     let mut i: usize = 0;
     while i < nodes {
@@ -108,10 +125,11 @@ fn put_steps(
             i += 1;
             continue;
         }
-        let met = meet(0, i, true, forms, args, ends, sets, &mut mates);
-        let head = put_head(line, i);
-        let pairs = put_alone(space, at, line, head, met.label);
-        at = put_pairs(space, pairs, line, head, &mates, met.count);
+        to = lead(i, to, forms, args, ends, &mut way);
+        let met = meet(i, to, true, forms, args, ends, sets, &way, &mut mates);
+        let k = put_head(&mut head, i);
+        let pairs = put_alone(space, at, &head, k, met.label);
+        at = put_pairs(space, pairs, &head, k, &mates, met.count);
         i += 1;
     }
     at
@@ -122,11 +140,10 @@ fn put_undo(space: &mut [u8], n: usize, key: u16, label: u8) -> usize
     requires { ⌜ (n ≤ 4096) × (length (now space) ≡ 4096) ⌝ }
     ensures { λ r. ⌜ (r ≤ 4096) × (length (now (space .exit)) ≡ 4096) ⌝ }
 {
-    let a = put(space, n, b"undo ");
-    let b = put_number(space, a, key as u64);
-    let c = put(space, b, b" ");
-    let d = put_number(space, c, label as u64);
-    put(space, d, b"\n")
+    let to = room(space, n);
+    let a = put_field(space, to, b"undo ", key);
+    let b = put_field(space, a, b" ", label as u16);
+    put(space, b, b"\n")
 }
 
 // A line for each of the first `count` keys of the row, with its label.
@@ -164,24 +181,20 @@ fn put_allowed(space: &mut [u8], n: usize, bytes: &[u8]) -> usize
 fn list_refused(space: &mut [u8], refusal: u8)
     requires { ⌜ length (now space) ≡ 4096 ⌝ }
 {
-    let a = put(space, 0, b"refused ");
-    let b = put_number(space, a, refusal as u64);
-    let c = put(space, b, b"\n");
-    flush(space, c);
+    let a = put_field(space, 0, b"refused ", refusal as u16);
+    let b = put(space, a, b"\n");
+    flush(space, b);
 }
 
 // The first line of a record that is read.
 fn put_counts(space: &mut [u8], bytes: &[u8], nodes: usize) -> usize
-    requires { ⌜ length (now space) ≡ 4096 ⌝ }
+    requires { ⌜ (length (now space) ≡ 4096) × (nodes ≤ node-limit) ⌝ }
     ensures { λ r. ⌜ (r ≤ 4096) × (length (now (space .exit)) ≡ 4096) ⌝ }
 {
-    let a = put(space, 0, b"nodes ");
-    let b = put_number(space, a, nodes as u64);
-    let c = put(space, b, b" keys ");
-    let d = put_number(space, c, value(keys::count(bytes)));
-    let e = put(space, d, b" next ");
-    let f = put_number(space, e, value(keys::least_free(bytes)));
-    put(space, f, b"\n")
+    let a = put_field(space, 0, b"nodes ", narrow(nodes));
+    let b = put_field(space, a, b" keys ", value(keys::count(bytes)));
+    let c = put_field(space, b, b" next ", value(keys::least_free(bytes)));
+    put(space, c, b"\n")
 }
 
 // Writes all lines of a record, or its refusal, and answers which: the refusal, or the number of nodes. The record is indexed and its

@@ -4,6 +4,7 @@ use mathlib.Core.Logic.{_≢_}
 use mathlib.Core.List.{List}
 use mathlib.Core.Bool.{Bool, true, false, true≢false}
 use Prim.Native.Nat.{ℕ, zero, suc, _+_, _<_, _≤_}
+use native.Mathlib.Decide.{ℕ-discrete}
 use native.Mathlib.Omega.{arith}
 use lib.ListN.{getD}
 use Rattle.ccsk.specs.Term.{Term, Name, Label, Node, nil, pre, cho, par, res, Std, Channel, size}
@@ -97,6 +98,14 @@ module _ {F A E : List ℕ} {n : Node} (S : SomePart F A E n) where
 
   pub part-beyond : {k : Node} → k ≡ getD E (n + 1) 0 → 3 ≤ getD F n 0 → getD F n 0 ≢ 6 → SomePart F A E k × (n < k)
   part-beyond d = begins d (form n (S .0) (S .1)) .1
+
+  -- a node from which something below steps is not the last
+  pub next-inside : 2 ≤ getD F n 0 → n + 1 < node-limit
+  next-inside h = pick (ℕ-discrete (getD F n 0) 3)
+    where
+      pick : Dec (getD F n 0 ≡ 3) → n + 1 < node-limit
+      pick (yes e) = let B = part-beyond refl (omega arith) (λ q. omega (arith, e, q)) in omega (arith, B .0 .1 .nodes, size-pos (B .0 .0), B .1)
+      pick (no e) = let D = part-below h e in omega (arith, D .1 .nodes, size-pos (D .0))
 
   pub hidden-name : getD F n 0 ≡ 6 → Channel (getD A n 0)
   hidden-name q = name (rw q at (form n (S .0) (S .1)))

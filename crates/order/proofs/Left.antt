@@ -8,7 +8,7 @@ use native.Mathlib.Omega.{arith}
 use lib.ListN.{length, getD}
 use Rattle.ccsk.specs.Numbers.{In, in?}
 use Rattle.ccsk.specs.Term.{Key}
-use Rattle.order.specs.Rows.{Among}
+use Rattle.threads.specs.Rows.{Among}
 
 abbrev put : {A : Type 0} → Dec A → Key → List Key → List Key
 put (yes d) k l = l

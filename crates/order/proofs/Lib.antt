@@ -1,8 +1,6 @@
 -- Why each key that is taken out is the least that is free.
-pub mod Counting
 pub mod Releasing
 pub mod Left
 pub mod Peeling
-pub mod Threading
 pub mod Planting
 pub mod Whole

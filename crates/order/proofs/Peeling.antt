@@ -12,9 +12,9 @@ use Rattle.sound.proofs.Peel.{Peak, peak}
 use Rattle.keyset.proofs.Listing.{row-more}
 use Rattle.least.specs.Board.{There, Some, Took}
 use Rattle.order.specs.Peels.{Free, FirstFree, Peels, end, next}
-use Rattle.order.specs.Rows.{Leads, owing, between, Among}
+use Rattle.threads.specs.Rows.{Leads, owing, between, Among}
 use Rattle.order.specs.Steps.{Scene, State, Taken, InOrder}
-use Rattle.order.proofs.Counting.{stands-inside, owing-nothing, owing-zero, owing-take, between-skip, between-some, between-counts}
+use Rattle.threads.proofs.Counting.{stands-inside, owing-nothing, owing-zero, owing-take, between-skip, between-some, between-counts}
 use Rattle.order.proofs.Releasing.{same-number}
 use Rattle.order.proofs.Left.{left, in-left, left-all, left-less, left-some, left-none}
 

@@ -12,9 +12,9 @@ use Rattle.ccsk.specs.Term.{Key}
 use Rattle.ccsk.proofs.Basic.{never}
 use Rattle.sound.specs.Sound.{one}
 use Rattle.least.specs.Board.{There, Board, Put}
-use Rattle.order.specs.Rows.{Leads, owing, between, Among, Under, Last}
+use Rattle.threads.specs.Rows.{Leads, owing, between, Among, Under, Last}
 use Rattle.order.specs.Steps.{Scene, State, Taken, Released, fell, came}
-use Rattle.order.proofs.Counting.{between-none, between-yes, between-no, between-skip}
+use Rattle.threads.proofs.Counting.{between-none, between-yes, between-no, between-skip}
 
 -- what one release comes to
 pub release-fell : (n u : ℕ) (counts tree : List ℕ) (v : ℕ) → 0 < getD counts u 0 → v + 1 ≡ getD counts u 0 → v ≢ 0 → Released n u counts tree (set counts u v) tree

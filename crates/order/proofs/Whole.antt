@@ -16,11 +16,12 @@ use Rattle.keyset.proofs.Members.{members-absent, members-there}
 use Rattle.rank.specs.Rank.{rank, Ranked}
 use Rattle.rank.proofs.Ranks.{rank-less, rank-ordered, rank-reached, rank-length}
 use Rattle.order.specs.Peels.{Free, Peels, end, next}
-use Rattle.order.specs.Rows.{owing, Among, Last}
+use Rattle.threads.specs.Rows.{owing, Among, Last}
 use Rattle.order.specs.Steps.{Scene, State, InOrder, PeelsAll}
-use Rattle.order.specs.Setup.{Held, Sortable, Sorted, Ready, Threaded, Planted}
-use Rattle.order.proofs.Counting.{stands-inside}
-use Rattle.order.proofs.Threading.{held-small}
+use Rattle.threads.specs.Threads.{Held, Sortable, Ready, Threaded}
+use Rattle.order.specs.Setup.{Sorted, Planted}
+use Rattle.threads.proofs.Counting.{stands-inside}
+use Rattle.threads.proofs.Threading.{held-small}
 
 -- The key with the rank r stands in place r of the list of keys.
 members-at : (s : List ℕ) (n : ℕ) (k : Key) → k < n → member s k ≡ true → getD (membersBelow s n) (rank s k) 0 ≡ k

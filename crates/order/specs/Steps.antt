@@ -9,7 +9,7 @@ use Rattle.ccsk.specs.Term.{Key}
 use Rattle.sound.specs.Sound.{Chain}
 use Rattle.format.specs.Limits.{node-limit}
 use Rattle.least.specs.Board.{There, Board, Put}
-use Rattle.order.specs.Rows.{Leads, owing, between, Among, Under, Last}
+use Rattle.threads.specs.Rows.{Leads, owing, between, Among, Under, Last}
 use Rattle.order.specs.Peels.{Peels}
 
 -- n keys with numbers, in the list `keys`, and the rows between them. For each number the last row that leads to its key stands in `heads`,

@@ -1,4 +1,3 @@
--- Why the partners of a place are listed, node by node.
-pub mod Listing
-pub mod Showing
+-- Why a way leads to a place, and what the place meets on the way back.
+pub mod Ways
 pub mod Mates

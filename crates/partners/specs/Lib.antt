@@ -1,3 +1,3 @@
--- What the passes for the partners of a place list and answer.
-pub mod Listed
+-- What a place meets, and the way to it.
 pub mod Met
+pub mod Way

@@ -10,16 +10,15 @@ use Rattle.offers.specs.Offers.{OffersAt, JoinsAt}
 use Rattle.offers.specs.Forms.{Part}
 use Rattle.wanted.specs.Kept.{Covers}
 use Rattle.partners.specs.declared.Met.{Met}
-use Rattle.partners.specs.Listed.{Listed}
+use Rattle.showing.specs.Listed.{Listed}
 
 -- the one label r, or none where r is the byte that is no action
 abbrev pub Is : Label → Label → Type 0
 Is r l = (l ≡ r) × (r ≢ 128)
 
--- r is what a restriction on the name a leaves of m
-pub record Hides (a : Name) (m r : Met) : Type 0 where
-  pub label : (l : Label) → Is (r .label) l ↔ (Is (m .label) l × ¬ On a l)
-  pub count : r .count ≡ m .count
+-- the label r is what a restriction on the name a leaves of the label m
+pub record Hides (a : Name) (m r : Label) : Type 0 where
+  pub at : (l : Label) → Is r l ↔ (Is m l × ¬ On a l)
 
 -- the test whether partners are to be listed from the right side
 abbrev pub Seeks : ℕ → Bool → Label → Bool → Type 0

@@ -6,7 +6,9 @@ ghost use Rattle.shared.specs.Tells.{Tells};
 ghost use Rattle.search.specs.First.{refusal, found, first-place, second-place, label, SomeReady, Next};
 use index::index;
 use labelset::full;
+use partners::lead;
 use partners::meet;
+use partners::root;
 use reader::NODES;
 use shared::NO_ACTION;
 use shared::Node;
@@ -52,6 +54,7 @@ fn next_step(
     ensures { λ r. ⌜ Next nodes (now (forms .entry)) (now (args .entry)) (now (ends .entry)) (now (marks .entry)) (p .0) (q .0) r ⌝ }
 {
     let sets = [0u64; 0];
+    let mut way = [0u16; NODES];
     let mut mates = [0u16; NODES];
     let mut i = wide(p.0);
     let mut from = wide(q.0);
@@ -63,13 +66,14 @@ fn next_step(
             i += 1;
             continue 'search;
         }
-        let own = meet(0, i, false, forms, args, ends, &sets, &mut mates);
+        let to = lead(i, root(), forms, args, ends, &mut way);
+        let own = meet(i, to, false, forms, args, ends, &sets, &way, &mut mates);
         if is_alone(from, own.label) {
             j = 0;
             label = own.label;
             break 'search;
         }
-        let met = meet(0, i, true, forms, args, ends, &sets, &mut mates);
+        let met = meet(i, to, true, forms, args, ends, &sets, &way, &mut mates);
         let mut k: usize = 0;
         while k < met.count {
             j = wide(mates[k]);

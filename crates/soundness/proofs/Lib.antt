@@ -1,3 +1,2 @@
--- Why the verdict of the columns is that of the record.
-pub mod Sheets
-pub mod Steps
+-- Why the verdict is that of the record.
+pub mod Whole

@@ -1,4 +1,3 @@
 -- Laws that the functions' proofs cite.
-pub mod Tests
 pub mod Parts
 pub mod Surveys

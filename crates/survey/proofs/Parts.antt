@@ -11,9 +11,9 @@ use Rattle.ccsk.specs.Term.{Term, nil, pre, cho, par, res, size}
 use Rattle.format.specs.Encode.{encode}
 use Rattle.moves.specs.Choose.{spots}
 use Rattle.moves.specs.Move.{holds, stands, move, overPrefix, overChoice, overParallel, overRestriction, still}
-use Rattle.survey.specs.declared.seen.Ask.{Ask}
-use Rattle.survey.specs.declared.seen.Seen.{Seen}
-use Rattle.survey.specs.Seen.{Found, moveOf, choiceOf, mayOf}
+use Rattle.findings.specs.declared.Ask.{Ask}
+use Rattle.findings.specs.declared.Seen.{Seen}
+use Rattle.findings.specs.Seen.{Found, moveOf, choiceOf, mayOf}
 use Rattle.survey.specs.Over.{two, Sides}
 
 pub found-nil : (ask : Ask) (i n : ℕ) (r : Seen) → r .any ≡ false → r .stands ≡ false → r .count ≡ 0 → r .first ≡ 0 → r .second ≡ 0 → moveOf (r .moved) ≡ still → Found ask i n nil r

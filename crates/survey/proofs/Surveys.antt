@@ -18,11 +18,11 @@ use Rattle.reader.specs.Head.{body, childCount}
 use Rattle.reader.specs.Walk.{Stops, Walks, NodeDue}
 use Rattle.reader.proofs.Heads.{by-kind}
 use Rattle.reader.proofs.Laws.{walks-nil, walks-prefix, walks-restriction, walks-choice, walks-parallel, no-children, one-child, two-children, stops-first, stops-second}
-use Rattle.survey.specs.declared.seen.Ask.{Ask}
-use Rattle.survey.specs.declared.seen.Seen.{Seen}
+use Rattle.findings.specs.declared.Ask.{Ask}
+use Rattle.findings.specs.declared.Seen.{Seen}
 use Rattle.survey.specs.declared.pass.Outcome.{Outcome}
 use Rattle.survey.specs.declared.pass.Outcome.the-variants as found
-use Rattle.survey.specs.Seen.{Found, choiceOf}
+use Rattle.findings.specs.Seen.{Found, choiceOf}
 use Rattle.survey.specs.Over.{OverOne, OverTwo, two}
 use Rattle.survey.specs.Survey.{Surveyed}
 

@@ -9,10 +9,10 @@ use Rattle.ccsk.specs.Term.{Term, Name, Label, Key, Node, pre, cho, par, res, s
 use Rattle.format.specs.Encode.{encode}
 use Rattle.format.specs.Read.{keyOf}
 use Rattle.moves.specs.Move.{move}
-use Rattle.survey.specs.declared.seen.Move.{Move}
-use Rattle.survey.specs.declared.seen.Ask.{Ask}
-use Rattle.survey.specs.declared.seen.Seen.{Seen}
-use Rattle.survey.specs.Seen.{Found, moveOf, choiceOf, mayOf}
+use Rattle.findings.specs.declared.Move.{Move}
+use Rattle.findings.specs.declared.Ask.{Ask}
+use Rattle.findings.specs.declared.Seen.{Seen}
+use Rattle.findings.specs.Seen.{Found, moveOf, choiceOf, mayOf}
 
 -- r is what is found of a prefix, if `below` is what is found of its child
 abbrev pub OverPrefix : Ask → ℕ → Node → Label → Key → Seen → Seen → Type 0

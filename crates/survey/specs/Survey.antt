@@ -5,12 +5,12 @@ use Rattle.ccsk.specs.Term.{Term}
 use Rattle.format.specs.Limits.{node-limit}
 use Rattle.format.specs.Read.{Reads, Refuses}
 use Rattle.reader.specs.Walk.{Stops, Walks}
-use Rattle.survey.specs.declared.seen.Ask.{Ask}
+use Rattle.findings.specs.declared.Ask.{Ask}
 use Rattle.survey.specs.declared.pass.Outcome.{Outcome}
 use Rattle.survey.specs.declared.pass.Outcome.the-variants as found
 use Rattle.survey.specs.declared.pass.Whole.{Whole}
 use Rattle.survey.specs.declared.pass.Whole.the-variants as whole
-use Rattle.survey.specs.Seen.{Found}
+use Rattle.findings.specs.Seen.{Found}
 
 -- at the place `at` of s, with d levels and k nodes left: reading is refused, or it gives a term of which r is found
 abbrev pub Surveyed : List ℕ → ℕ → ℕ → ℕ → Ask → Outcome → Type 0

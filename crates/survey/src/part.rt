@@ -1,19 +1,19 @@
 // What is found of a node, from what is found of its children.
-use crate::seen::Ask;
-use crate::seen::Move;
-use crate::seen::Seen;
-use crate::seen::is_chosen;
-use crate::seen::may_step;
-use crate::seen::over_choice;
-use crate::seen::over_parallel;
-use crate::seen::over_prefix;
-use crate::seen::over_restriction;
+use findings::Ask;
+use findings::Move;
+use findings::Seen;
+use findings::is_chosen;
+use findings::may_step;
+use findings::over_choice;
+use findings::over_parallel;
+use findings::over_prefix;
+use findings::over_restriction;
 use shared::NOT_DONE;
 use shared::Name;
 use shared::either;
 ghost use Prim.Native.Nat.{ℕ, _+_, _<_};
 ghost use Rattle.ccsk.specs.Term.{nil};
-ghost use Rattle.survey.specs.Seen.{Found};
+ghost use Rattle.findings.specs.Seen.{Found};
 ghost use Rattle.survey.specs.Over.{OverPrefix, OverRestriction, MoveOfTwo, OverTwo};
 
 // What is found of a nil.

@@ -1,5 +1,2 @@
--- Why the keys go in turn, and what is left is the record without them.
-pub mod Rest
-pub mod Turns
-pub mod Undone
+-- The refusals in their order.
 pub mod Answers

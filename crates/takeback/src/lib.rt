@@ -2,47 +2,17 @@
 use filing::Found;
 use filing::LINKS;
 use filing::file_all;
-use keyset::BYTES;
+use linked::take_linked;
 use reader::NODES;
 use shared::KEY_ABSENT;
 use shared::KEY_ZERO;
 use shared::Key;
 use shared::NOT_SOUND;
 use shared::Number;
-use shared::SHORT_ROW;
 ghost use Prim.Native.Nat.{_<_};
 ghost use Rattle.operations.specs.Ask.{Soundness};
 ghost use Rattle.operations.specs.TakeBack.{TakeBack};
 ghost use Rattle.shared.specs.Number.{refusal, value};
-ghost use Rattle.filing.specs.Cabinet.{cabinet};
-ghost use Rattle.takeback.specs.Linked.{Linked};
-
-// Takes a key of a sound record back, whose links are filed. The key itself goes last, since it waits for all others that go.
-fn take_linked(
-    bytes: &mut [u8],
-    key: u16,
-    links: usize,
-    upper: &mut [u16],
-    lower: &[u16],
-    older: &mut [u16],
-    latest: &[u16],
-    row: &mut [u16],
-) -> Number
-    requires { ⌜ Linked (now bytes) key (cabinet (now upper) (now lower) (now older) (now latest)) links ⌝ }
-    ensures { λ r. ⌜ TakeBack (now (bytes .entry)) key (now (row .entry)) (refusal r) (value r) (now (bytes .exit)) (now (row .exit)) ⌝ }
-{
-    let mut marks = [0u8; BYTES];
-    let mut queue = [0u16; LINKS];
-    let waits = chains::reach(key, upper, lower, older, latest, &mut marks, &mut queue);
-    if row.len() <= waits {
-        return Number::Refused(SHORT_ROW);
-    }
-    order::order(&marks, waits, links, upper, lower, older, row);
-    row[waits] = key;
-    keyset::add(&mut marks, key);
-    keys::erase(bytes, &marks);
-    Number::Is(waits + 1)
-}
 
 // Takes a key that is not 0 back, of a sound record.
 fn take_sound(bytes: &mut [u8], key: u16, row: &mut [u16]) -> Number

@@ -22,8 +22,8 @@ use Rattle.operations.specs.Ask.{Filled, Filled.short, Filled.filled}
 use Rattle.rank.specs.Rank.{rank}
 use Rattle.rank.proofs.Ranks.{rank-ordered, rank-less, rank-once, rank-reached, rank-counts}
 use Rattle.lasts.specs.Last.{Last, only, Ready}
-use Rattle.undos.specs.Group.{Small, AllAmong, times, Counted, AllIn, Standing, Standing.once, Standing.twice, Standing.never, Standing.half, Standing.ready, Settled, when, listed}
-use Rattle.undos.specs.Rows.{Put, Lines, Lines.lines}
+use Rattle.settle.specs.Group.{Small, times, Counted, AllIn, Standing, Standing.once, Standing.twice, Standing.never, Standing.half, Standing.ready, Settled}
+use Rattle.undos.specs.Rows.{AllAmong, when, listed, Put, Lines, Lines.lines}
 
 listed-ready : (st sl : List ℕ) (r : ℕ) → getD st r 0 ≡ 5 → listed st sl (r + 1) ≡ listed st sl r ++ (getD sl r 0 ∷ [])
 unfolding listed

@@ -25,13 +25,13 @@ use Rattle.moves.specs.Move.{holds}
 use Rattle.rank.specs.Rank.{one-more}
 use Rattle.lasts.specs.Last.{Last, Scopes, enclosed, open-scopes, over-prefix, over-choice, lasts, all-lasts, only, Ready}
 use Rattle.lasts.proofs.Ready.{undoable-iff-ready}
-use Rattle.undos.specs.declared.gather.Outcome.{Outcome}
-use Rattle.undos.specs.declared.gather.Outcome.the-variants as found
-use Rattle.undos.specs.Gather.{Lent, Noted, Gathers}
-use Rattle.undos.specs.Group.{Small, Positive, AllAmong, times}
-use Rattle.undos.specs.Rows.{Lines, Lines.lines}
-use Rattle.undos.proofs.Notes.{lasts-few}
-use Rattle.undos.proofs.Gathers.{gathers-refused, gathers-part}
+use Rattle.gather.specs.declared.Outcome.{Outcome}
+use Rattle.gather.specs.declared.Outcome.the-variants as found
+use Rattle.gather.specs.Gather.{Lent, Noted, Gathers}
+use Rattle.gather.proofs.Notes.{lasts-few}
+use Rattle.gather.proofs.Gathers.{gathers-refused, gathers-part}
+use Rattle.settle.specs.Group.{Small, times}
+use Rattle.undos.specs.Rows.{Positive, AllAmong, Lines, Lines.lines}
 
 -- a key stands as often as it marks actions
 times-append : (k : Key) (x y : List Key) → times k (x ++ y) ≡ times k x + times k y

@@ -1,13 +1,33 @@
 -- What one step of writing leaves of a row, and what stands in it at the end.
 use mathlib.Core.Path.{_≡_}
-use mathlib.Core.List.{List, _++_}
-use Prim.Native.Nat.{ℕ, _+_}
-use lib.ListN.{length, drop}
-use Rattle.ccsk.specs.Numbers.{Lists}
+use mathlib.Core.List.{List, [], _∷_, _++_}
+use mathlib.Core.Bool.{Bool, true, false}
+use Prim.Native.Nat.{ℕ, zero, suc, _+_, _<_}
+use lib.Dec.{eqb}
+use lib.ListN.{length, getD, drop}
+use Rattle.ccsk.specs.Numbers.{In, Lists}
 use Rattle.ccsk.specs.Term.{Key}
 use Rattle.lasts.specs.Last.{Last, only, Ready}
 use Rattle.operations.specs.Ask.{Filled}
-use Rattle.undos.specs.Group.{times, listed}
+use Rattle.settle.specs.Group.{times}
+
+-- none is 0
+abbrev pub Positive : List Key → Type 0
+Positive x = (k : Key) → In k x → 0 < k
+
+-- the key of every last is one of the list
+abbrev pub AllAmong : List Key → List Last → Type 0
+AllAmong x [] = Unit {0}
+AllAmong x (e ∷ l) = In (e .key) x × AllAmong x l
+
+abbrev pub when : Bool → ℕ → List ℕ
+when true j = j ∷ []
+when false j = []
+
+-- the slots of the first r ranks whose state is 5
+unfoldable pub listed : List ℕ → List ℕ → ℕ → List ℕ
+listed states slots zero = []
+listed states slots (suc r) = listed states slots r ++ when (eqb (getD states r 0) 5) (getD slots r 0)
 
 -- what stands in the row after rank r, if what comes before stands there already
 abbrev pub Put : List ℕ → List ℕ → ℕ → List ℕ → ℕ → ℕ → List ℕ → Type 0

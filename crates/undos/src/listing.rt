@@ -1,13 +1,13 @@
 // The undo listing (01, Operations): the keys whose undo is allowed, ascending, into a lent row.
-use crate::gather::Outcome;
-use crate::gather::gather;
-use crate::group::READY;
-use crate::group::settle;
+use gather::Outcome;
+use gather::gather;
 use keys::mark_all;
 use keyset::BYTES;
 use rank::fill;
 use reader::DEPTH;
 use reader::NODES;
+use settle::READY;
+use settle::settle;
 use shared::NAMES;
 use shared::NO_RECORD;
 use shared::Number;
@@ -18,10 +18,10 @@ ghost use Prim.Native.Nat.{ℕ, _+_, _≤_, _<_};
 ghost use lib.ListN.{length, getD, take, drop};
 ghost use Rattle.format.specs.Limits.{node-limit};
 ghost use Rattle.operations.specs.Ask.{UndoListing};
-ghost use Rattle.undos.specs.Group.{Small, Positive, AllAmong, listed};
+ghost use Rattle.settle.specs.Group.{Small};
 ghost use Rattle.shared.specs.Number.{refusal, value};
-ghost use Rattle.undos.specs.Rows.{Put, Lines};
-ghost use Rattle.undos.specs.Gather.{rows};
+ghost use Rattle.noting.specs.Node.{rows};
+ghost use Rattle.undos.specs.Rows.{Positive, AllAmong, listed, Put, Lines};
 
 // How many of the first n ranks are ready.
 fn count_ready(state: &[u8; NODES], n: usize) -> usize

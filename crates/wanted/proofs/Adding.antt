@@ -1,6 +1,6 @@
 -- Marks that are added.
 use mathlib.Core.Path.{_≡_, refl, _∙_}
-use mathlib.Core.Logic.{_⊎_, inl, inr, ⊎-elim, _↔_}
+use mathlib.Core.Logic.{_⊎_, inl, inr, ⊎-elim, ⊎-map, _↔_, Iff·rfl, Iff·trans}
 use mathlib.Core.List.{List}
 use Prim.Native.Nat.{ℕ, _<_}
 use native.Mathlib.Decide.{ℕ-discrete}
@@ -8,6 +8,10 @@ use lib.ListN.{length, getD, set, length-set}
 use lib.Seq.{getD-set-same, getD-set-other}
 use Rattle.ccsk.specs.Term.{Node}
 use Rattle.wanted.specs.Pass.{Adds}
+
+-- one of two statements, each put for another that holds just if it does
+pub one-of : {A B C D : Type 0} → A ↔ C → B ↔ D → (A ⊎ B) ↔ (C ⊎ D)
+one-of f g = (⊎-map (f .0) (g .0), ⊎-map (f .1) (g .1))
 
 -- no mark more
 pub adds-none : {P : Node → Type 0} {M : List ℕ} → ((i : Node) → ¬ P i) → Adds P M M
@@ -22,17 +26,11 @@ adds-one {P} {M} {n} h f = record { at = λ i. pick i (ℕ-discrete i n); room =
     pick i (no e) = rw (getD-set-other M n i 1 0 e) (inl, λ w. ⊎-elim (λ z. z) (λ z. absurd (e (f i .0 z))) w)
 
 pub adds-same : {P Q : Node → Type 0} {M M′ : List ℕ} → ((i : Node) → P i ↔ Q i) → Adds P M M′ → Adds Q M M′
-adds-same f a = record {
-  at = λ i. (λ w. ⊎-elim inl (λ z. inr (f i .0 z)) (a .at i .0 w), λ w. a .at i .1 (⊎-elim inl (λ z. inr (f i .1 z)) w));
-  room = a .room;
-}
+adds-same f a = record { at = λ i. Iff·trans (a .at i) (one-of Iff·rfl (f i)); room = a .room }
 
 -- one pass after another
 pub adds-both : {P Q : Node → Type 0} {M M′ M″ : List ℕ} → Adds Q M M′ → Adds P M′ M″ → Adds (λ i. P i ⊎ Q i) M M″
-adds-both a b = record {
-  at = λ i. (
-    λ w. ⊎-elim (λ z. ⊎-elim inl (λ y. inr (inr y)) (a .at i .0 z)) (λ z. inr (inl z)) (b .at i .0 w),
-    λ w. b .at i .1 (⊎-elim (λ z. inl (a .at i .1 (inl z))) (λ z. ⊎-elim inr (λ y. inl (a .at i .1 (inr y))) z) w),
-  );
-  room = b .room ∙ a .room;
-}
+adds-both a b = record { at = λ i. Iff·trans (b .at i) (Iff·trans (one-of (a .at i) Iff·rfl) swapped); room = b .room ∙ a .room }
+  where
+    swapped : {A B C : Type 0} → ((A ⊎ B) ⊎ C) ↔ (A ⊎ (C ⊎ B))
+    swapped = (λ w. ⊎-elim (λ z. ⊎-map (λ y. y) inr z) (λ z. inr (inl z)) w, λ w. ⊎-elim (λ z. inl (inl z)) (λ z. ⊎-elim inr (λ y. inl (inr y)) z) w)

@@ -1,13 +1,13 @@
 -- The labels shown and the places marked at a node, from those of its parts: one law for each form.
 use mathlib.Core.Path.{_≡_, refl, sym, _∙_}
-use mathlib.Core.Logic.{_⊎_, inl, inr, ⊎-elim, _↔_}
+use mathlib.Core.Logic.{_⊎_, inl, ⊎-elim, _↔_, Iff·rfl, Iff·and}
 use mathlib.Core.List.{List}
 use mathlib.Core.Bool.{Bool, true, false, false≢true}
 use Prim.Native.Nat.{ℕ, _+_}
 use native.Mathlib.Omega.{arith}
 use lib.Dec.{eqb}
 use lib.ListN.{length, getD}
-use Rattle.ccsk.specs.Term.{Term, Label, Node, res, Co, On, size}
+use Rattle.ccsk.specs.Term.{Term, Label, Node, Co, On, size}
 use Rattle.labelset.specs.declared.Labels.{Labels}
 use Rattle.labelset.specs.Set.{Shows, Exactly}
 use Rattle.offers.specs.Offers.{Shown, Wanted, At}
@@ -17,7 +17,7 @@ use Rattle.offers.proofs.Forms.{Form, nothing, own, next, second, hidden, Two, 
 use Rattle.offers.proofs.Wanted.{shown-silent, shown-own, shown-passed, shown-split, shown-hidden, wanted-same, wanted-silent, wanted-own, wanted-passed, wanted-choice, wanted-parallel, wanted-hidden}
 use Rattle.wanted.specs.Kept.{shown-at, Noted, Covers}
 use Rattle.wanted.specs.Pass.{Adds, Marked, Marks}
-use Rattle.wanted.proofs.Adding.{adds-none, adds-same, adds-both}
+use Rattle.wanted.proofs.Adding.{one-of, adds-none, adds-same, adds-both}
 use Rattle.wanted.proofs.Noting.{covers-more}
 
 -- the same labels
@@ -40,13 +40,10 @@ module _ {F A E : List ℕ} {n : Node} {told : Labels} {M : List ℕ} where
 
   pub marked-hidden : {t : Term} {r less below : Labels} {M′ : List ℕ} → Form F A E n 6 t → Exactly less (λ l. Shows told l × ¬ On (getD A n 0) l)
       → ((u : Term) → Part F A E (n + 1) u → Marked (n + 1) u less M M′ below) → Exactly r (λ l. Shows below l × ¬ On (getD A n 0) l) → Marked n t told M M′ r
-  marked-hidden {less = less} (hidden {a = a} {t = t} e c x) q f z = let m = f t x in record {
-    shows = exactly (rw e at z) (λ l. trans (shown-hidden l) (λ w. (m .shows .at l .1 (w .0), w .1), λ w. (m .shows .at l .0 (w .0), w .1)));
-    adds = adds-same (λ i. flip (at-one n 1 (n + 1) i refl asked)) (m .adds);
+  marked-hidden (hidden {t = t} e c x) q f z = let m = f t x in record {
+    shows = exactly (rw e at z) (λ l. trans (shown-hidden l) (Iff·and (flip (m .shows .at l)) Iff·rfl));
+    adds = adds-same (λ i. flip (at-one n 1 (n + 1) i refl (λ p. trans (wanted-hidden (Shows told) p) (at-same 1 p (wanted-same {t = t} (λ l. flip (rw e at (q .at l)))))))) (m .adds);
   }
-    where
-      asked : (p : Node) → Wanted (Shows told) (res a t) p ↔ At 1 (Wanted (Shows less) t) p
-      asked p = trans (wanted-hidden (Shows told) p) (at-same 1 p (wanted-same {t = t} (λ l. flip (rw e at (q .at l)))))
 
   -- the two parts, the right one first
   module _ {left right more r : Labels} {M′ M″ : List ℕ} {k : Node} (b : Bool) (d : k ≡ getD E (n + 1) 0) (f : (v : Term) → Part F A E k v → Marked k v told M M′ right)
@@ -54,17 +51,14 @@ module _ {F A E : List ℕ} {n : Node} {told : Labels} {M : List ℕ} where
     of-two : {t u v : Term} {U : Label → Type 0} → ((l : Label) → Shown t l ↔ (Shown u l ⊎ Shown v l)) → ((p : Node) → Wanted (Shows told) t p ↔ (At 1 (Wanted U u) p ⊎ At (1 + size u) (Wanted (Shows told) v) p))
         → ((l : Label) → U l ↔ Shows more l) → getD E (n + 1) 0 ≡ n + 1 + size u → Part F A E (n + 1) u → Part F A E k v → Marked n t told M M″ r
     of-two {t} {u} {v} s w o e x y = let one = g u x in let two = f v y in record {
-      shows = exactly z (λ l. trans (s l) (λ a. ⊎-elim (λ i. inl (one .shows .at l .1 i)) (λ i. inr (two .shows .at l .1 i)) a, λ a. ⊎-elim (λ i. inl (one .shows .at l .0 i)) (λ i. inr (two .shows .at l .0 i)) a));
-      adds = adds-same (λ i. flip (at-two n 1 (1 + size u) (n + 1) k i refl (omega (arith, d, e)) asked)) (adds-both (two .adds) (one .adds));
+      shows = exactly z (λ l. trans (s l) (one-of (flip (one .shows .at l)) (flip (two .shows .at l))));
+      adds = adds-same (λ i. flip (at-two n 1 (1 + size u) (n + 1) k i refl (omega (arith, d, e)) (λ p. trans (w p) (one-of (at-same 1 p (wanted-same {t = u} o)) Iff·rfl)))) (adds-both (two .adds) (one .adds));
     }
-      where
-        asked : (p : Node) → Wanted (Shows told) t p ↔ (At 1 (Wanted (Shows more) u) p ⊎ At (1 + size u) (Wanted (Shows told) v) p)
-        asked p = trans (w p) (λ a. ⊎-elim (λ i. inl (at-same 1 p (wanted-same {t = u} o) .0 i)) inr a, λ a. ⊎-elim (λ i. inl (at-same 1 p (wanted-same {t = u} o) .1 i)) inr a)
 
     pub marked-two : {t : Term} {h : ℕ} → Two F A E n h t → b ≡ eqb h 5 → Marked n t told M M″ r
     marked-two (choice P i x y) e = of-two (shown-split P) (wanted-choice (Shows told) P) (λ l. flip (trans (q .at l) (λ w. ⊎-elim (λ a. a) (λ a. absurd (false≢true (sym e ∙ a .0))) w, inl))) i x (rw (d ∙ i) y)
     marked-two (parallel {v = v} P i x y) e = let y′ : Part F A E k v = rw (d ∙ i) y in let s = f v y′ .shows in of-two (shown-split P) (wanted-parallel (Shows told) P)
-        (λ l. flip (trans (q .at l) (λ w. ⊎-elim inl (λ a. inr (a .1 .0, a .1 .1, s .at (a .1 .0) .0 (a .1 .2))) w, λ w. ⊎-elim inl (λ a. inr (e, (a .0, a .1, s .at (a .0) .1 (a .2)))) w))) i x y′
+        (λ l. flip (trans (q .at l) (one-of Iff·rfl (λ a. (a .1 .0, a .1 .1, s .at (a .1 .0) .0 (a .1 .2)), λ a. (e, (a .0, a .1, s .at (a .0) .1 (a .2))))))) i x y′
 
 -- what is marked and shown at a node is told and noted for it
 pub marks-noted : {F A E : List ℕ} {n : Node} {told x : Labels} {M K₀ M′ K K′ : List ℕ} → ((t : Term) → Part F A E n t → Marked n t told M M′ x) → (Covers F A E K₀ → Covers F A E K) → length M′ ≡ length M → length K ≡ length K₀
@@ -82,7 +76,7 @@ marks-passed f m = record { part = f; covers = m .covers; room = m .room; long =
 -- what the left part is asked for
 pub asked-parallel : {b : Bool} (told right : Labels) {turned more : Labels} → b ≡ true → Exactly turned (λ l. (k : ℕ) × Co l k × Shows right k) → Exactly more (λ l. Shows told l ⊎ Shows turned l)
     → Exactly more (λ l. Shows told l ⊎ ((b ≡ true) × ((k : ℕ) × Co l k × Shows right k)))
-asked-parallel told right e t m = exactly m (λ l. (λ w. ⊎-elim inl (λ z. inr (t .at l .1 (z .1))) w, λ w. ⊎-elim inl (λ z. inr (e, t .at l .0 z)) w))
+asked-parallel told right e t m = exactly m (λ l. one-of Iff·rfl (λ z. t .at l .1 (z .1), λ z. (e, t .at l .0 z)))
 
 pub asked-choice : {b : Bool} (told right : Labels) → b ≡ false → Exactly told (λ l. Shows told l ⊎ ((b ≡ true) × ((k : ℕ) × Co l k × Shows right k)))
 asked-choice told right e = record { at = λ l. (inl, λ w. ⊎-elim (λ z. z) (λ z. absurd (false≢true (sym e ∙ z .0))) w) }

@@ -10,7 +10,7 @@ use lib.Seq.{getD-set-same, getD-set-other}
 use Rattle.ccsk.specs.Term.{Term, Label, Node}
 use Rattle.labelset.specs.declared.Labels.{Labels}
 use Rattle.labelset.specs.Set.{Shows, Exactly}
-use Rattle.labelset.proofs.Words.{full-word}
+use Rattle.labelset.proofs.Words.{all-ones, full-word}
 use Rattle.labelset.proofs.Sets.{set-whole}
 use Rattle.offers.specs.Offers.{Shown, Showing}
 use Rattle.offers.specs.Forms.{Part}
@@ -81,11 +81,9 @@ pub none-shown : {F A E K : List ℕ} {n : Node} {t : Term} (want : Labels) → 
 none-shown {n = n} {t = t} want c P (h, a) q (l, w, o) = a l (c .at n t l P h (q, o), w)
 
 -- a row with all bits set misses nothing
-pub covers-full : {F A E : List ℕ} (m : ℕ) → Covers F A E (replicate m 18446744073709551615)
+pub covers-full : {F A E : List ℕ} (m : ℕ) → Covers F A E (replicate m all-ones)
 covers-full m = record {
-  at = λ i t l P h w. let f : 4 * (i + 1) + 4 ≤ m = rw (length-replicate {A = ℕ} m 18446744073709551615) at h in
-      rw (word m (4 * (i + 1)) (omega arith), word m (4 * (i + 1) + 1) (omega arith), word m (4 * (i + 1) + 2) (omega arith), word m (4 * (i + 1) + 3) (omega arith)) (set-whole _ full-word .at l .1 (offers-low (P .range) (w .1)));
+  at = λ i t l P h w. let f : 4 * (i + 1) + 4 ≤ m = rw (length-replicate {A = ℕ} m all-ones) at h in
+      let z : (j : ℕ) → j < m → _≡_ {A = ℕ} (getD (replicate m all-ones) j 0) all-ones = λ j. getD-replicate m j all-ones 0 in
+      rw (z (4 * (i + 1)) (omega arith), z (4 * (i + 1) + 1) (omega arith), z (4 * (i + 1) + 2) (omega arith), z (4 * (i + 1) + 3) (omega arith)) (set-whole _ full-word .at l .1 (offers-low (P .range) (w .1)));
 }
-  where
-    word : (n i : ℕ) → i < n → _≡_ {A = ℕ} (getD (replicate n 18446744073709551615) i 0) 18446744073709551615
-    word n i h = getD-replicate n i 18446744073709551615 0 h

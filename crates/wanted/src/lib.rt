@@ -3,7 +3,7 @@ ghost use mathlib.Core.Path.{_≡_};
 ghost use mathlib.Core.Logic.{_⊎_};
 ghost use mathlib.Core.Bool.{true};
 ghost use Prim.Native.Nat.{ℕ, _+_, _*_, _<_, _≤_};
-ghost use lib.ListN.{length};
+ghost use lib.ListN.{length, getD};
 ghost use Rattle.ccsk.specs.Term.{Co};
 ghost use Rattle.format.specs.Limits.{node-limit};
 ghost use Rattle.labelset.specs.Set.{Shows, Exactly};
@@ -17,6 +17,7 @@ use index::NEXT;
 use index::NOTHING;
 use index::OWN;
 use index::SECOND;
+use index::second_part;
 use labelset::Labels;
 use labelset::apart;
 use labelset::complements;
@@ -26,7 +27,6 @@ use labelset::joined;
 use labelset::only;
 use labelset::without_name;
 use reader::NODES;
-use shared::wide;
 
 // A place that is wanted.
 pub const WANTED: u8 = 1;
@@ -38,7 +38,7 @@ pub const WORDS: usize = 4;
 // The set at a place of the row.
 fn set_at(place: usize, row: &[u64]) -> Labels
     requires { ⌜ (place ≤ node-limit) × (4 * place + 4 ≤ length (now row)) ⌝ }
-    ensures { λ r. ⌜ r ≡ shown-at (now (row .entry)) place ⌝ }
+    ensures { λ r. ⌜ (r ≡ shown-at (now (row .entry)) place) × (4 * place + 4 ≤ length (now (row .entry))) ⌝ }
 {
     let at = WORDS * place;
     Labels {
@@ -105,6 +105,14 @@ fn asked(parallel: bool, told: Labels, right: Labels) -> Labels
     told
 }
 
+// The form of node n.
+fn form_at(n: usize, forms: &[u8; NODES]) -> u8
+    requires { ⌜ (n < node-limit) × (length (now forms) ≡ node-limit) ⌝ }
+    ensures { λ r. ⌜ (r ≡ getD (now (forms .entry)) n 0) × (n < node-limit) ⌝ }
+{
+    forms[n]
+}
+
 // Marks the wanted places of the part at node n, where the labels of the set (ta, tb, tc, td) are asked for around it. The labels that it
 // shows are left in front of the row of sets. Four numbers in, and a place in the row for the answer, keep the stack of this recursion small,
 // and where one part alone steps the call is the last thing done. What is noted for such a node stays as it was.
@@ -130,7 +138,7 @@ pub fn mark(
         c: tc,
         d: td,
     };
-    let form = forms[n];
+    let form = form_at(n, forms);
     if form == NOTHING {
         show(n, empty(), row);
         return;
@@ -164,7 +172,7 @@ pub fn mark(
         show(n, without_name(set_at(0, row), a), row);
         return;
     }
-    let second = wide(ends[next]);
+    let second = second_part(n, ends);
     if form == SECOND {
         mark(second, ta, tb, tc, td, forms, args, ends, marks, row);
         return;

@@ -1,5 +1,5 @@
 -- `concoursel_count` meets its contract: the operation's answer, packed.
-use Rattle.concoursel.proofs.Packs.{pack-number}
+use Rattle.packing.proofs.Packs.{pack-number}
 use borrow.Author.Needs.{needs}
 use Rattle.concoursel.proofs.concoursel_count.Statement.{statement}
 use Rattle.concoursel.proofs.concoursel_count.Tie as tie

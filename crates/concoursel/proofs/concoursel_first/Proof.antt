@@ -1,5 +1,5 @@
 -- `concoursel_first` meets its contract: the operation's answer, packed.
-use Rattle.concoursel.proofs.Packs.{pack-first}
+use Rattle.packing.proofs.Packs.{pack-first}
 use borrow.Author.Needs.{needs}
 use Rattle.concoursel.proofs.concoursel_first.Statement.{statement}
 use Rattle.concoursel.proofs.concoursel_first.Tie as tie

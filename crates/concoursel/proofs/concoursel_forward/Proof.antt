@@ -1,5 +1,5 @@
 -- `concoursel_forward` meets its contract: the operation's answer, packed.
-use Rattle.concoursel.proofs.Packs.{pack-step}
+use Rattle.packing.proofs.Packs.{pack-step}
 use borrow.Author.Needs.{needs}
 use Rattle.concoursel.proofs.concoursel_forward.Statement.{statement}
 use Rattle.concoursel.proofs.concoursel_forward.Tie as tie

@@ -1,5 +1,5 @@
 -- `concoursel_least_free` meets its contract: the operation's answer, packed.
-use Rattle.concoursel.proofs.Packs.{pack-number}
+use Rattle.packing.proofs.Packs.{pack-number}
 use borrow.Author.Needs.{needs}
 use Rattle.concoursel.proofs.concoursel_least_free.Statement.{statement}
 use Rattle.concoursel.proofs.concoursel_least_free.Tie as tie

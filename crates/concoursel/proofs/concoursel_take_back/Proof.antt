@@ -1,5 +1,5 @@
 -- `concoursel_take_back` meets its contract: the operation's answer, packed.
-use Rattle.concoursel.proofs.Packs.{pack-both}
+use Rattle.packing.proofs.Packs.{pack-both}
 use borrow.Author.Needs.{needs}
 use borrow.Author.Needs.{needs}
 use Rattle.concoursel.proofs.concoursel_take_back.Statement.{statement}

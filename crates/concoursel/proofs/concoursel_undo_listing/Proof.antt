@@ -1,5 +1,5 @@
 -- `concoursel_undo_listing` meets its contract: the operation's answer, packed.
-use Rattle.concoursel.proofs.Packs.{pack-lent}
+use Rattle.packing.proofs.Packs.{pack-lent}
 use borrow.Author.Needs.{needs}
 use Rattle.concoursel.proofs.concoursel_undo_listing.Statement.{statement}
 use Rattle.concoursel.proofs.concoursel_undo_listing.Tie as tie

@@ -4,8 +4,5 @@ use borrow.Author.Needs.{needs}
 use Rattle.labelset.proofs.complements.Statement.{statement}
 use Rattle.labelset.proofs.complements.Tie as tie
 
-returns : tie.Need-returns
-returns c = set-complements (c .before .before .args .s) _ _ (c .before .even-part .ensures) (c .even-part2 .ensures)
-
 pub complements-spec : {M : Type 1} → statement M
-complements-spec = tie.close (tie.spec (λ c κs. search needs) (λ c κs. search needs) returns)
+complements-spec = tie.close (tie.spec (λ c κs. search needs) (λ c κs. search needs) (λ c. set-complements _ _ _ (c .before .even-part .ensures) (c .even-part2 .ensures)))

@@ -3,8 +3,5 @@ use Rattle.labelset.proofs.Sets.{set-empty}
 use Rattle.labelset.proofs.empty.Statement.{statement}
 use Rattle.labelset.proofs.empty.Tie as tie
 
-returns : tie.Need-returns
-returns c = set-empty
-
 pub empty-spec : {M : Type 1} → statement M
-empty-spec = tie.close (tie.spec returns)
+empty-spec = tie.close (tie.spec (λ c. set-empty))

@@ -4,8 +4,5 @@ use Rattle.labelset.proofs.Sets.{set-whole}
 use Rattle.labelset.proofs.full.Statement.{statement}
 use Rattle.labelset.proofs.full.Tie as tie
 
-returns : tie.Need-returns
-returns c = set-whole _ full-word
-
 pub full-spec : {M : Type 1} → statement M
-full-spec = tie.close (tie.spec returns)
+full-spec = tie.close (tie.spec (λ c. set-whole _ full-word))

@@ -3,8 +3,5 @@ use Rattle.labelset.proofs.Sets.{set-joined}
 use Rattle.labelset.proofs.joined.Statement.{statement}
 use Rattle.labelset.proofs.joined.Tie as tie
 
-returns : tie.Need-returns
-returns c = set-joined (c .before .before .before .before .before .before .before .before .args .s) (c .before .before .before .before .before .before .before .before .args .t)
-
 pub joined-spec : {M : Type 1} → statement M
-joined-spec = tie.close (tie.spec returns)
+joined-spec = tie.close (tie.spec (λ c. set-joined _ _))

@@ -8,10 +8,10 @@ use Rattle.shared.proofs.Labels.{tells-iff}
 use Rattle.partners.proofs.Mates.{hides-stopped, hides-open}
 
 returns : tie.Need-returns
-returns c = hides-stopped (tells-iff (c .before .before .is-on .result) (c .before .before .is-on .ensures) .0 (c .before .if1 .taken)) (c .meeting .ensures)
+returns c = hides-stopped (tells-iff (c .before .is-on .result) (c .before .is-on .ensures) .0 (c .if1 .taken))
 
 returns-2 : tie.Need-returns-2
 returns-2 c = hides-open (λ o. false≢true (sym (c .if1 .left) ∙ tells-iff (c .before .is-on .result) (c .before .is-on .ensures) .1 o))
 
 pub hide-spec : {M : Type 1} → statement M
-hide-spec = tie.close (tie.spec (λ c κs. search needs) (λ c κs. search needs) returns returns-2)
+hide-spec = tie.close (tie.spec (λ c κs. search needs) returns returns-2)

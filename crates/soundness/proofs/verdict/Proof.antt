@@ -2,7 +2,7 @@
 use native.Mathlib.Omega.{arith}
 use borrow.Author.Tests.{not-true, not-false}
 use Rattle.reader.proofs.Whole.{slice-bytes}
-use Rattle.soundness.proofs.Steps.{refused-verdict, refused-caused, first-verdict, second-verdict, fair, last-verdict}
+use Rattle.soundness.proofs.Whole.{refused-verdict, refused-caused, first-verdict, second-verdict, fair, last-verdict}
 use borrow.Author.Needs.{needs}
 use Rattle.soundness.proofs.verdict.Statement.{statement}
 use Rattle.soundness.proofs.verdict.Tie as tie

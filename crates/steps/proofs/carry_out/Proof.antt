@@ -1,7 +1,7 @@
 -- `carry_out` meets its contract: each place of the plan stands in the record, and `write` puts the key there.
 use mathlib.Core.Path.{refl, _∙_}
 use lib.ListN.{length-set}
-use Rattle.steps.proofs.Plans.{inside-one, inside-two}
+use Rattle.plans.proofs.Plans.{inside-one, inside-two}
 use borrow.Author.Needs.{needs}
 use Rattle.steps.proofs.carry_out.Statement.{statement}
 use Rattle.steps.proofs.carry_out.Tie as tie

@@ -5,12 +5,9 @@ use Rattle.wanted.proofs.shows_none.Tie as tie
 use mathlib.Core.Bool.{false≢true}
 use Rattle.shared.proofs.Labels.{tells-iff}
 
-returns : tie.Need-returns
-returns c = λ e. absurd (false≢true e)
-
-returns-2 : tie.Need-returns-2
-returns-2 c = λ e. (c .before .before .if1 .left, rw (c .before .set-at .ensures) at (tells-iff (c .apart .result) (c .apart .ensures) .0 e))
+returns : tie.Need-returns-2
+returns c = λ e. (c .before .before .if1 .left, rw (c .before .set-at .ensures .0) at (tells-iff (c .apart .result) (c .apart .ensures) .0 e))
 
 pub shows-none-spec : {M : Type 1} → statement M
 shows-none-spec =
-    tie.close (tie.spec (λ c. search needs) (λ c. search needs) (λ c. search needs) returns (λ c κs. search needs) (λ c κs. search needs) returns-2)
+    tie.close (tie.spec (λ c. search needs) (λ c. search needs) (λ c. search needs) (λ c e. absurd (false≢true e)) (λ c κs. search needs) (λ c κs. search needs) returns)

@@ -11,8 +11,17 @@ use Rattle.wanted.proofs.Noting.{covers-full}
 mark-requires : tie.Need-mark-requires
 mark-requires c κs = let f = index-filled (c .before .before .before .before .before .before .before .before .before .before .before .before .before .before .before .args .bytes .now) _ _ _ (c .before .before .before .before .before .before .before .before .before .index .result) (c .before .before .before .before .before .before .before .before .before .index .ensures) _ (c .before .before .before .before .before .before .before .n .given .1) in ((f .0, rows-part (f .2)), (f .2 .room, refl, omega arith))
 
+put-counts-requires : tie.Need-put-counts-requires
+put-counts-requires c κs = let f = index-filled (c .before .before .before .before .before .before .before .before .before .before .before .before .before .before .before .before .before .before .args .bytes .now) _ _ _ (c .before .before .before .before .before .before .before .before .before .before .before .before .index .result) (c .before .before .before .before .before .before .before .before .before .before .before .before .index .ensures) _ (c .before .before .before .before .before .before .before .before .before .before .n .given .1) in (refl, omega (arith, f .2 .count, f .2 .fits .nodes))
+
 put-steps-requires : tie.Need-put-steps-requires
 put-steps-requires c κs = let f = index-filled (c .before .before .before .before .before .before .before .before .before .before .before .before .before .before .before .before .before .before .before .before .before .before .before .before .before .before .before .args .bytes .now) _ _ _ (c .before .before .before .before .before .before .before .before .before .before .before .before .before .before .before .before .before .before .before .before .before .index .result) (c .before .before .before .before .before .before .before .before .before .before .before .before .before .before .before .before .before .before .before .before .before .index .ensures) _ (c .before .before .before .before .before .before .before .before .before .before .before .before .before .before .before .before .before .before .before .n .given .1) in ((c .before .before .before .before .before .before .before .before .put-counts .ensures .0, c .before .before .before .before .before .before .before .before .put-counts .ensures .1, omega (arith, f .2 .count, f .2 .fits .nodes), c .before .before .before .before .before .before .before .before .before .before .before .mark .ensures .room ∙ refl), ((f .0, rows-part (f .2)), (f .2 .room, c .before .before .before .before .before .before .before .before .before .before .before .mark .ensures .covers (covers-full 16388))))
+
+put-allowed-requires : tie.Need-put-allowed-requires
+put-allowed-requires c κs = c .before .before .before .put-steps .ensures
+
+flush-requires : tie.Need-flush-requires
+flush-requires c κs = c .before .before .before .put-allowed .ensures
 
 returns : tie.Need-returns
 returns c = unreadable (index-refused (c .before .before .before .before .before .before .before .before .before .before .before .args .bytes .now) _ _ _ (c .before .before .before .before .before .index .result) (c .before .before .before .before .before .index .ensures) _ (c .before .before .before .c .given .1))
@@ -32,10 +41,10 @@ list-spec =
     (λ c κs. search needs)
     (λ c. search needs)
     mark-requires
-    (λ c κs. search needs)
+    put-counts-requires
     (λ c. search needs)
     put-steps-requires
-    (λ c κs. search needs)
-    (λ c κs. search needs)
+    put-allowed-requires
+    flush-requires
     returns
     returns-2)

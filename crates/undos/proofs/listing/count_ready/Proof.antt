@@ -4,7 +4,7 @@ use mathlib.Core.List.{List}
 use Prim.Native.Nat.{ℕ, _≤_, _-_}
 use native.Mathlib.Omega.{arith}
 use lib.ListN.{length}
-use Rattle.undos.specs.Group.{listed}
+use Rattle.undos.specs.Rows.{listed}
 use Rattle.undos.proofs.Listings.{counted-nothing, count-more, count-end}
 use Rattle.undos.proofs.listing.count_ready.Statement.{statement}
 use Rattle.undos.proofs.listing.count_ready.Tie as tie

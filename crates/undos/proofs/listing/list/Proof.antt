@@ -4,7 +4,7 @@ use native.Mathlib.Omega.{arith}
 use lib.ListN.{take}
 use lib.Seq.{length-take-le}
 use Rattle.keys.proofs.Marks.{holds-none}
-use Rattle.undos.specs.Gather.{rows}
+use Rattle.noting.specs.Node.{rows}
 use Rattle.undos.proofs.Listings.{no-counts, among-in, ranks-count, few-ranks, lines-short, lines-written}
 use borrow.Author.Needs.{needs}
 use Rattle.undos.proofs.listing.list.Statement.{statement}

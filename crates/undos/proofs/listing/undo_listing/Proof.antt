@@ -3,8 +3,9 @@ use mathlib.Core.Path.{refl}
 use native.Mathlib.Omega.{arith}
 use lib.ListN.{replicate}
 use Rattle.reader.proofs.Whole.{slice-bytes}
-use Rattle.undos.specs.Gather.{rows, Sized}
-use Rattle.undos.proofs.Notes.{arrays}
+use Rattle.noting.specs.Node.{rows}
+use Rattle.gather.specs.Gather.{Sized}
+use Rattle.gather.proofs.Notes.{arrays}
 use Rattle.undos.proofs.Whole.{listing-refused, listing-trailing, all-whole, counts-within, keys-small, keys-positive, keys-among, listing-done}
 use borrow.Author.Needs.{needs}
 use Rattle.undos.proofs.listing.undo_listing.Statement.{statement}

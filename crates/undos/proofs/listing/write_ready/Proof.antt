@@ -4,7 +4,7 @@ use mathlib.Core.List.{_++_}
 use Prim.Native.Nat.{_≤_, _-_}
 use native.Mathlib.Omega.{arith}
 use lib.ListN.{length, drop}
-use Rattle.undos.specs.Group.{listed}
+use Rattle.undos.specs.Rows.{listed}
 use Rattle.undos.proofs.Listings.{counted-nothing, listed-few, put-room, row-start, row-size, row-end}
 use Rattle.undos.proofs.listing.write_ready.Statement.{statement}
 use Rattle.undos.proofs.listing.write_ready.Tie as tie

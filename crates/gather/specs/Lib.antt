@@ -1,0 +1,2 @@
+-- What the pass notes.
+pub mod Gather

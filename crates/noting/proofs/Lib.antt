@@ -1,0 +1,3 @@
+-- Laws on plain lists and numbers: rows in lent arrays, and what one node notes.
+pub mod Rows
+pub mod Nodes

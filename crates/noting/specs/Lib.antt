@@ -1,0 +1,2 @@
+-- What one node notes.
+pub mod Node

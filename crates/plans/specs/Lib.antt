@@ -1,0 +1,2 @@
+-- Plans of forward step and undo.
+pub mod Plan

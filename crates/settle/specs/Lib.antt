@@ -1,0 +1,2 @@
+-- What settling leaves of each key.
+pub mod Group
