@@ -17,7 +17,7 @@ use Rattle.showing.specs.Listed.{Lists}
 use Rattle.partners.specs.declared.Met.{Met}
 use Rattle.partners.specs.declared.Stand.{Stand}
 use Rattle.partners.specs.Met.{Hides, Seeks, Meets}
-use Rattle.partners.specs.Way.{Onward, inner, Turns, Turn, Way, WayTo}
+use Rattle.partners.specs.Way.{Onward, inner, Turns, Turn, Way, Left, WayTo}
 use Rattle.partners.proofs.Mates.{meets-next, meets-second, meets-hidden, meets-left, meets-both}
 
 -- the turns before the last written
@@ -123,10 +123,6 @@ module _ {F A E : List ℕ} where
         pick : (k : ℕ) → k < suc d → Dec (k ≡ d) → Turn F A E (set W d n) i k
         pick k h (yes e) = rw e (record { part = rw here (w .part); form = rw here f; from = rw (here, kept-inner W d n d (omega arith)) (w .last); deep = rw here (w .deep) })
         pick k h (no e) = let g : k < d = omega arith in let T = w .turns k g in record { part = rw (kept W d n k g) (T .part); form = rw (kept W d n k g) (T .form); from = rw (kept W d n k g, kept-inner W d n k (omega arith)) (T .from); deep = rw (kept W d n k g) (T .deep) }
-
--- a place that is before the second part at each turn of two parts
-abbrev pub Left : List ℕ → List ℕ → List ℕ → Node → ℕ → Type 0
-Left F E W i d = (k : ℕ) → k < d → getD F (getD W k 0) 0 ≢ 6 → i < getD E (getD W k 0 + 1) 0
 
 pub left-turn : (F E W : List ℕ) (i n : Node) (d m : ℕ) → d < length W → m ≡ suc d → Left F E W i d → (getD F n 0 ≢ 6 → i < getD E (n + 1) 0) → Left F E (set W d n) i m
 left-turn F E W i n d m l q f g k h = pick (ℕ-discrete k d)

@@ -42,9 +42,12 @@ pub record Way (F A E W : List ℕ) (i : Node) (d : ℕ) (n : Node) : Type 0 whe
   pub deep : d ≤ n
   pub low : n < node-limit
 
--- The way to the place i comes to this stand. Where it turns into the first of two parts, i stands before the second; at its end i meets no other
--- place yet.
+-- where the way turns into the first of two parts, the place i stands before the second
+abbrev pub Left : List ℕ → List ℕ → List ℕ → Node → ℕ → Type 0
+Left F E W i d = (k : ℕ) → k < d → getD F (getD W k 0) 0 ≢ 6 → i < getD E (getD W k 0 + 1) 0
+
+-- The way comes to this stand as a way to the place i, which meets no other place there yet.
 pub record WayTo (F A E W : List ℕ) (i : Node) (s : Stand) : Type 0 where
   pub way : Way F A E W i (s .turns) (s .node)
-  pub left : (k : ℕ) → k < s .turns → getD F (getD W k 0) 0 ≢ 6 → i < getD E (getD W k 0 + 1) 0
+  pub left : Left F E W i (s .turns)
   pub met : (K : List ℕ) (listing : Bool) (L : List ℕ) → Meets F A E K (s .node) i listing L L (record { label = s .label; count = 0 })

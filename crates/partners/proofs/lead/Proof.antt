@@ -9,9 +9,9 @@ use Prim.Native.Nat.{_-_, _+_}
 use lib.ListN.{length, length-set}
 use Rattle.format.specs.Limits.{node-limit}
 use Rattle.offers.proofs.Forms.{inside, next-inside, part-beyond}
-use Rattle.partners.specs.Way.{Way}
+use Rattle.partners.specs.Way.{Way, Left}
 use Rattle.partners.proofs.Mates.{meets-end}
-use Rattle.partners.proofs.Ways.{Left, turn-inner, turned, stays, way-back, way-next, way-second, way-turn, left-turn, all-left}
+use Rattle.partners.proofs.Ways.{turn-inner, turned, stays, way-back, way-next, way-second, way-turn, left-turn, all-left}
 
 abbrev Inv-back : tie.InvT-back
 Inv-back i forms args ends way turns₀ n₀ turns n = Way forms args ends way i turns n
