@@ -12,40 +12,40 @@ use Rattle.causes.specs.Entry.{marked, entries, under, all, only}
 use Rattle.causes.specs.Tests.{EachKey, AtMostTwo, Complements, Beside, Enclosed, Acyclic, holds, waits, chosen}
 
 -- a.b[1].0
-fails-1 : waits (pre 1 0 (pre 2 1 nil)) ≡ false
+fails_1 : waits (pre 1 0 (pre 2 1 nil)) ≡ false
 unfolding waits holds
-fails-1 = refl
+fails_1 = refl
 
 -- a[1].0 + b[2].0
-fails-2 : chosen (cho (pre 1 1 nil) (pre 2 2 nil)) ≡ false
+fails_2 : chosen (cho (pre 1 1 nil) (pre 2 2 nil)) ≡ false
 unfolding chosen holds
-fails-2 = refl
+fails_2 = refl
 
 -- a[1].0 | (a[1].0 | a'[1].0)
-fails-3 : ¬ EachKey AtMostTwo (all (par (pre 1 1 nil) (par (pre 1 1 nil) (pre 129 1 nil))))
+fails_3 : ¬ EachKey AtMostTwo (all (par (pre 1 1 nil) (par (pre 1 1 nil) (pre 129 1 nil))))
 unfolding entries only
-fails-3 w = let h : 3 ≤ 2 = w 1 (omega arith) in omega arith
+fails_3 w = let h : 3 ≤ 2 = w 1 (omega arith) in omega arith
 
 -- a[1].0 | a[1].0
-fails-4 : ¬ EachKey Complements (all (par (pre 1 1 nil) (pre 1 1 nil)))
+fails_4 : ¬ EachKey Complements (all (par (pre 1 1 nil) (pre 1 1 nil)))
 unfolding entries only
-fails-4 w = out (w 1 (omega arith))
+fails_4 w = out (w 1 (omega arith))
   where
     out : Co 1 1 → ⊥
     out (inl c) = omega arith
     out (inr c) = omega arith
 
 -- a[1].a'[1].0: the second entry is in row 1, and the first ends in row 2
-fails-5 : ¬ EachKey Beside (all (pre 1 1 (pre 129 1 nil)))
+fails_5 : ¬ EachKey Beside (all (pre 1 1 (pre 129 1 nil)))
 unfolding entries only marked
-fails-5 w = let h : 2 ≤ 1 = w 1 (omega arith) in omega arith
+fails_5 w = let h : 2 ≤ 1 = w 1 (omega arith) in omega arith
 
 -- a[1].0 under a restriction on a
-fails-6 : ¬ EachKey Enclosed (all (res 1 (pre 1 1 nil)))
+fails_6 : ¬ EachKey Enclosed (all (res 1 (pre 1 1 nil)))
 unfolding entries only under on? channel? dec_le ℕ_discrete
-fails-6 w = let h : ◌≡◌ {A = ℕ} 1 0 = w 1 (omega arith) in omega arith
+fails_6 w = let h : ◌≡◌ {A = ℕ} 1 0 = w 1 (omega arith) in omega arith
 
 -- a[1].b[2].0 | b'[2].a'[1].0
-fails-7 : ¬ Acyclic (all (par (pre 1 1 (pre 2 2 nil)) (pre 130 2 (pre 129 1 nil))))
+fails_7 : ¬ Acyclic (all (par (pre 1 1 (pre 2 2 nil)) (pre 130 2 (pre 129 1 nil))))
 unfolding entries
-fails-7 f = f 1 (more (one {n = 2} (inr (inl (omega arith, refl, refl)))) (inr (inr (inr (inl (omega arith, refl, refl))))))
+fails_7 f = f 1 (more (one {n = 2} (inr (inl (omega arith, refl, refl)))) (inr (inr (inr (inl (omega arith, refl, refl))))))

@@ -9,11 +9,11 @@ use native.Mathlib.Decide.{ℕ_discrete}
 use native.Mathlib.Omega.{arith}
 use lib.ListN.{length, length-append}
 use Rattle.ccsk.specs.Term.{Term, nil, pre, cho, par, res, Std, size}
-use Rattle.ccsk.proofs.Basic.{std-labels}
+use Rattle.ccsk.proofs.Basic.{std_labels}
 use Rattle.sound.specs.Sound.{Chosen, Apart, Split}
-use Rattle.causes.specs.Entry.{Entry, Scopes, under, open-scopes, marked, entries, all, only}
+use Rattle.causes.specs.Entry.{Entry, Scopes, under, open_scopes, marked, entries, all, only}
 use Rattle.causes.specs.Tests.{EachKey, Beside}
-use Rattle.causes.proofs.Entries.{Every, Within, within, every-only, only-append, only_same, only-other, count_entries}
+use Rattle.causes.proofs.Entries.{Every, Within, within, every_only, only-append, only_same, only_other, count_entries}
 
 -- two entries, and the second is not below the first
 abbrev pub Parted : List Entry → Type 0
@@ -50,8 +50,8 @@ parallel n c b (e ∷ (f ∷ [])) (g ∷ y) h p q = absurd (omega arith)
 parallel n c b (e ∷ (f ∷ (g ∷ x))) y h p q = absurd (omega arith)
 
 -- a term without keys has no entries
-no-entries : (m n row u : ℕ) (s : Scopes) (t : Term) → 0 < m → Std t → only m (entries n row u s t) ≡ []
-no-entries m n row u s t h d = empty (only m (entries n row u s t)) (sym (count_entries m n row u s t h) ∙ ap length (std-labels m t d h))
+no_entries : (m n row u : ℕ) (s : Scopes) (t : Term) → 0 < m → Std t → only m (entries n row u s t) ≡ []
+no_entries m n row u s t h d = empty (only m (entries n row u s t)) (sym (count_entries m n row u s t h) ∙ ap length (std_labels m t d h))
   where
     empty : (l : List Entry) → length l ≡ 0 → l ≡ []
     empty [] e = refl
@@ -80,8 +80,8 @@ module _ (m : ℕ) (h : 0 < m) where
       pick : Dec (m ≡ suc j) → length (only m (e ∷ l)) ≤ 2 → (length (only m l) ≤ 2 → Apart m t ↔ Parted (only m l)) → Apart m t ↔ Parted (only m (e ∷ l))
       pick (yes q) k i =
           let z : length (e ∷ only m l) ≤ 2 = rw (only_same m e l q) at k in
-          rw (only_same m e l q) (Iff.trans (i (omega arith)) (below (suc row) (suc row + marked t) e (only m l) z (omega arith) (every-only (Within (suc row) (suc row + marked t)) m l (within (suc n) (suc row) (suc j) (suc row + marked t) s t (omega arith)))))
-      pick (no q) k i = rw (only-other m e l q) (i (rw (only-other m e l q) at k))
+          rw (only_same m e l q) (Iff.trans (i (omega arith)) (below (suc row) (suc row + marked t) e (only m l) z (omega arith) (every_only (Within (suc row) (suc row + marked t)) m l (within (suc n) (suc row) (suc j) (suc row + marked t) s t (omega arith)))))
+      pick (no q) k i = rw (only_other m e l q) (i (rw (only_other m e l q) at k))
   parted n row u s (cho t r) c k = pick (parted (suc n) row u s t c.1) (parted (suc n + size t) (row + marked t) u s r c.2)
     where
       x : List Entry
@@ -92,7 +92,7 @@ module _ (m : ℕ) (h : 0 < m) where
 
       pick : (length (only m x) ≤ 2 → Apart m t ↔ Parted (only m x)) → (length (only m y) ≤ 2 → Apart m r ↔ Parted (only m y)) → Apart m (cho t r) ↔ Parted (only m (x ++ y))
       pick i j = let z = shorter x y k in
-          rw (only-append m x y) (Iff.trans (either (i z.0) (j z.1)) (choice (only m x) (only m y) z.2 (⊎_elim (λ d. inl (no-entries m (suc n) row u s t h d)) (λ d. inr (no-entries m (suc n + size t) (row + marked t) u s r h d)) c.0)))
+          rw (only-append m x y) (Iff.trans (either (i z.0) (j z.1)) (choice (only m x) (only m y) z.2 (⊎_elim (λ d. inl (no_entries m (suc n) row u s t h d)) (λ d. inr (no_entries m (suc n + size t) (row + marked t) u s r h d)) c.0)))
   parted n row u s (par t r) v k = pick (parted (suc n) row u s t v.0) (parted (suc n + size t) (row + marked t) u s r v.1)
     where
       c : ℕ
@@ -111,22 +111,22 @@ module _ (m : ℕ) (h : 0 < m) where
       pick i j = let z = shorter x y k in
           rw (only-append m x y, count_entries m (suc n) row u s t h, count_entries m (suc n + size t) (row + marked t) u s r h) (Iff.trans (either (λ v. v, λ v. v) (either (i z.0) (j z.1)))
           (parallel row c b (only m x) (only m y) z.2
-          (every-only (Within row c) m x (within (suc n) row u c s t (omega arith)))
-          (every-only (Within c b) m y (within (suc n + size t) c u b s r (omega arith)))))
+          (every_only (Within row c) m x (within (suc n) row u c s t (omega arith)))
+          (every_only (Within c b) m y (within (suc n + size t) c u b s r (omega arith)))))
   parted n row u s (res a t) c k = parted (suc n) row u (under a n s) t c k
 
-beside-parted : (l : List Entry) → (length l ≡ 2 → Parted l) ↔ Beside l
-beside-parted [] = (λ f. tt, λ b e. absurd (omega arith))
-beside-parted (e ∷ []) = (λ f. tt, λ b e. absurd (omega arith))
-beside-parted (e ∷ (f ∷ [])) = (λ f. f refl, λ b e. b)
-beside-parted (e ∷ (f ∷ (g ∷ l))) = (λ f. tt, λ b e. absurd (omega arith))
+beside_parted : (l : List Entry) → (length l ≡ 2 → Parted l) ↔ Beside l
+beside_parted [] = (λ f. tt, λ b e. absurd (omega arith))
+beside_parted (e ∷ []) = (λ f. tt, λ b e. absurd (omega arith))
+beside_parted (e ∷ (f ∷ [])) = (λ f. f refl, λ b e. b)
+beside_parted (e ∷ (f ∷ (g ∷ l))) = (λ f. tt, λ b e. absurd (omega arith))
 
 -- condition 5
-pub split-by-entries : (t : Term) → Chosen t → Split t ↔ EachKey Beside (all t)
-split-by-entries t c = (to, back)
+pub split_by_entries : (t : Term) → Chosen t → Split t ↔ EachKey Beside (all t)
+split_by_entries t c = (to, back)
   where
     to : Split t → EachKey Beside (all t)
-    to w m h = (beside-parted (only m (all t))).0 (λ e. (parted m h 0 0 0 open-scopes t c (omega arith)).0 (w m h (count_entries m 0 0 0 open-scopes t h ∙ e)))
+    to w m h = (beside_parted (only m (all t))).0 (λ e. (parted m h 0 0 0 open_scopes t c (omega arith)).0 (w m h (count_entries m 0 0 0 open_scopes t h ∙ e)))
 
     back : EachKey Beside (all t) → Split t
-    back w m h e = let q = sym (count_entries m 0 0 0 open-scopes t h) ∙ e in (parted m h 0 0 0 open-scopes t c (omega arith)).1 ((beside-parted (only m (all t))).1 (w m h) q)
+    back w m h e = let q = sym (count_entries m 0 0 0 open_scopes t h) ∙ e in (parted m h 0 0 0 open_scopes t c (omega arith)).1 ((beside_parted (only m (all t))).1 (w m h) q)

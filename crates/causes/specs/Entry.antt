@@ -27,8 +27,8 @@ unfoldable pub under : Name → Node → Scopes → Scopes
 under a n s l = nearest (on? a l) (suc n) (s l)
 
 -- no restriction above
-abbrev pub open-scopes : Scopes
-open-scopes l = 0
+abbrev pub open_scopes : Scopes
+open_scopes l = 0
 
 -- how many prefixes hold a key
 unfoldable pub marked : Term → ℕ
@@ -51,7 +51,7 @@ entries n i up s (res a t) = entries (suc n) i up (under a n s) t
 
 -- all entries of a term
 abbrev pub all : Term → List Entry
-all t = entries 0 0 0 open-scopes t
+all t = entries 0 0 0 open_scopes t
 
 -- one entry more in front, if the test holds
 abbrev pub keep : Bool → Entry → List Entry → List Entry

@@ -70,11 +70,11 @@ Acyclic l = (m : Key) → ¬ Chain (Leads l) m m
 
 -- The verdict by these tests: the lowest number that fails, 0 if none does.
 pub data Tested (t : Term) : ℕ → Type 0 where
-  none-fails : waits t ≡ true → chosen t ≡ true → EachKey AtMostTwo (all t) → EachKey Complements (all t) → EachKey Beside (all t) → EachKey Enclosed (all t) → Acyclic (all t) → Tested t 0
-  first-fails : waits t ≡ false → Tested t 1
-  second-fails : waits t ≡ true → chosen t ≡ false → Tested t 2
-  third-fails : waits t ≡ true → chosen t ≡ true → ¬ EachKey AtMostTwo (all t) → Tested t 3
-  fourth-fails : waits t ≡ true → chosen t ≡ true → EachKey AtMostTwo (all t) → ¬ EachKey Complements (all t) → Tested t 4
-  fifth-fails : waits t ≡ true → chosen t ≡ true → EachKey AtMostTwo (all t) → EachKey Complements (all t) → ¬ EachKey Beside (all t) → Tested t 5
-  sixth-fails : waits t ≡ true → chosen t ≡ true → EachKey AtMostTwo (all t) → EachKey Complements (all t) → EachKey Beside (all t) → ¬ EachKey Enclosed (all t) → Tested t 6
-  seventh-fails : waits t ≡ true → chosen t ≡ true → EachKey AtMostTwo (all t) → EachKey Complements (all t) → EachKey Beside (all t) → EachKey Enclosed (all t) → ¬ Acyclic (all t) → Tested t 7
+  none_fails : waits t ≡ true → chosen t ≡ true → EachKey AtMostTwo (all t) → EachKey Complements (all t) → EachKey Beside (all t) → EachKey Enclosed (all t) → Acyclic (all t) → Tested t 0
+  first_fails : waits t ≡ false → Tested t 1
+  second_fails : waits t ≡ true → chosen t ≡ false → Tested t 2
+  third_fails : waits t ≡ true → chosen t ≡ true → ¬ EachKey AtMostTwo (all t) → Tested t 3
+  fourth_fails : waits t ≡ true → chosen t ≡ true → EachKey AtMostTwo (all t) → ¬ EachKey Complements (all t) → Tested t 4
+  fifth_fails : waits t ≡ true → chosen t ≡ true → EachKey AtMostTwo (all t) → EachKey Complements (all t) → ¬ EachKey Beside (all t) → Tested t 5
+  sixth_fails : waits t ≡ true → chosen t ≡ true → EachKey AtMostTwo (all t) → EachKey Complements (all t) → EachKey Beside (all t) → ¬ EachKey Enclosed (all t) → Tested t 6
+  seventh_fails : waits t ≡ true → chosen t ≡ true → EachKey AtMostTwo (all t) → EachKey Complements (all t) → EachKey Beside (all t) → EachKey Enclosed (all t) → ¬ Acyclic (all t) → Tested t 7

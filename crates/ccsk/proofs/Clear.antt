@@ -7,8 +7,8 @@ use borrow.Author.Tests.{eq-eqb, ne_eqb}
 use lib.Dec.{eqb}
 use Rattle.ccsk.specs.Term.{Term, nil, pre, cho, par, res, Has}
 use Rattle.ccsk.specs.Step.{Undo, Undo.top, Undo.prefix, Undo.choice₁, Undo.choice₂, Undo.par₁, Undo.par₂, Undo.synch, Undo.restrict}
-use Rattle.ccsk.proofs.Basic.{std-has}
-use Rattle.ccsk.proofs.Undo.{key-pos}
+use Rattle.ccsk.proofs.Basic.{std_has}
+use Rattle.ccsk.proofs.Undo.{key_pos}
 
 abbrev pub zeroed : Bool → ℕ → ℕ
 zeroed true k = 0
@@ -29,13 +29,13 @@ clear_none m (cho t u) f = rw (clear_none m t (λ i. f (inl i)), clear_none m u 
 clear_none m (par t u) f = rw (clear_none m t (λ i. f (inl i)), clear_none m u (λ i. f (inr i)))
 clear_none m (res a t) f = rw (clear_none m t f)
 
-pub undo-clears : {t u : Term} {m l : ℕ} → Undo t m l u → clear m t ≡ u
+pub undo_clears : {t u : Term} {m l : ℕ} → Undo t m l u → clear m t ≡ u
 unfolding clear
-undo-clears (top {m = m} {t = t} h s) = rw (eq-eqb m m refl, clear_none m t (std-has t s h))
-undo-clears (prefix {n = n} {m = m} h f d) = rw (ne_eqb m n f, undo-clears d)
-undo-clears (choice₁ {m = m} {u = u} s d) = rw (undo-clears d, clear_none m u (std-has u s (key-pos d)))
-undo-clears (choice₂ {m = m} {t = t} s d) = rw (undo-clears d, clear_none m t (std-has t s (key-pos d)))
-undo-clears (par₁ {m = m} {u = u} f d) = rw (undo-clears d, clear_none m u f)
-undo-clears (par₂ {m = m} {t = t} f d) = rw (undo-clears d, clear_none m t f)
-undo-clears (synch c d e) = rw (undo-clears d, undo-clears e)
-undo-clears (restrict f d) = rw (undo-clears d)
+undo_clears (top {m = m} {t = t} h s) = rw (eq-eqb m m refl, clear_none m t (std_has t s h))
+undo_clears (prefix {n = n} {m = m} h f d) = rw (ne_eqb m n f, undo_clears d)
+undo_clears (choice₁ {m = m} {u = u} s d) = rw (undo_clears d, clear_none m u (std_has u s (key_pos d)))
+undo_clears (choice₂ {m = m} {t = t} s d) = rw (undo_clears d, clear_none m t (std_has t s (key_pos d)))
+undo_clears (par₁ {m = m} {u = u} f d) = rw (undo_clears d, clear_none m u f)
+undo_clears (par₂ {m = m} {t = t} f d) = rw (undo_clears d, clear_none m t f)
+undo_clears (synch c d e) = rw (undo_clears d, undo_clears e)
+undo_clears (restrict f d) = rw (undo_clears d)

@@ -35,18 +35,18 @@ without-append m (a ∷ x) y = rw (without-append m x y) (pull (eqb m a))
     pull true = refl
     pull false = refl
 
-pub without-same : (m a : ℕ) (l : List ℕ) → m ≡ a → without m (a ∷ l) ≡ without m l
+pub without_same : (m a : ℕ) (l : List ℕ) → m ≡ a → without m (a ∷ l) ≡ without m l
 unfolding without
-without-same m a l e = rw (eq-eqb m a e)
+without_same m a l e = rw (eq-eqb m a e)
 
 pub without_other : (m a : ℕ) (l : List ℕ) → m ≢ a → without m (a ∷ l) ≡ a ∷ without m l
 unfolding without
 without_other m a l e = rw (ne_eqb m a e)
 
-pub without-none : (m : ℕ) (l : List ℕ) → ¬ In m l → without m l ≡ l
+pub without_none : (m : ℕ) (l : List ℕ) → ¬ In m l → without m l ≡ l
 unfolding without
-without-none m [] f = refl
-without-none m (a ∷ l) f = rw (ne_eqb m a (λ e. f (inl e)), without-none m l (λ i. f (inr i)))
+without_none m [] f = refl
+without_none m (a ∷ l) f = rw (ne_eqb m a (λ e. f (inl e)), without_none m l (λ i. f (inr i)))
 
 pub in_without : (n m : ℕ) (l : List ℕ) → n ≢ m → In n (without m l) ↔ In n l
 unfolding without
@@ -54,36 +54,36 @@ in_without n m [] e = (λ i. absurd i, λ i. i)
 in_without n m (a ∷ l) e = pick (ℕ_discrete m a) (in_without n m l e)
   where
     pick : Dec (m ≡ a) → In n (without m l) ↔ In n l → In n (without m (a ∷ l)) ↔ In n (a ∷ l)
-    pick (yes q) i = rw (without-same m a l q) (λ j. inr (i.0 j), λ j. ⊎_elim (λ z. absurd (e (z ∙ sym q))) i.1 j)
+    pick (yes q) i = rw (without_same m a l q) (λ j. inr (i.0 j), λ j. ⊎_elim (λ z. absurd (e (z ∙ sym q))) i.1 j)
     pick (no q) i = rw (without_other m a l q) (⊎_elim inl (λ j. inr (i.0 j)), ⊎_elim inl (λ j. inr (i.1 j)))
 
-new-old : {A : Type 0} (d : Dec A) (n : ℕ) → A → new d n ≡ n
-new-old (yes a) n x = refl
-new-old (no a) n x = absurd (a x)
+new_old : {A : Type 0} (d : Dec A) (n : ℕ) → A → new d n ≡ n
+new_old (yes a) n x = refl
+new_old (no a) n x = absurd (a x)
 
-new-new : {A : Type 0} (d : Dec A) (n : ℕ) → ¬ A → new d n ≡ suc n
-new-new (yes a) n x = absurd (x a)
-new-new (no a) n x = refl
+new_new : {A : Type 0} (d : Dec A) (n : ℕ) → ¬ A → new d n ≡ suc n
+new_new (yes a) n x = absurd (x a)
+new_new (no a) n x = refl
 
-pub distinct-old : (a : ℕ) (l : List ℕ) → In a l → distinct (a ∷ l) ≡ distinct l
+pub distinct_old : (a : ℕ) (l : List ℕ) → In a l → distinct (a ∷ l) ≡ distinct l
 unfolding distinct
-distinct-old a l i = new-old (in? a l) (distinct l) i
+distinct_old a l i = new_old (in? a l) (distinct l) i
 
-pub distinct-new : (a : ℕ) (l : List ℕ) → ¬ In a l → distinct (a ∷ l) ≡ suc (distinct l)
+pub distinct_new : (a : ℕ) (l : List ℕ) → ¬ In a l → distinct (a ∷ l) ≡ suc (distinct l)
 unfolding distinct
-distinct-new a l i = new-new (in? a l) (distinct l) i
+distinct_new a l i = new_new (in? a l) (distinct l) i
 
 -- what stands at a place of a list is in it
-pub getD-in : (l : List ℕ) (i : ℕ) → i < length l → In (get_or l i 0) l
-getD-in [] i h = absurd (omega arith)
-getD-in (a ∷ l) zero h = inl refl
-getD-in (a ∷ l) (suc i) h = inr (getD-in l i (omega arith))
+pub get_or_in : (l : List ℕ) (i : ℕ) → i < length l → In (get_or l i 0) l
+get_or_in [] i h = absurd (omega arith)
+get_or_in (a ∷ l) zero h = inl refl
+get_or_in (a ∷ l) (suc i) h = inr (get_or_in l i (omega arith))
 
 -- a row of zeros has 0 everywhere, and past its end too
-pub getD-zeros : (n i : ℕ) → ◌≡◌ {A = ℕ} (get_or (replicate n 0) i 0) 0
-getD-zeros zero i = refl
-getD-zeros (suc n) zero = refl
-getD-zeros (suc n) (suc i) = getD-zeros n i
+pub get_or_zeros : (n i : ℕ) → ◌≡◌ {A = ℕ} (get_or (replicate n 0) i 0) 0
+get_or_zeros zero i = refl
+get_or_zeros (suc n) zero = refl
+get_or_zeros (suc n) (suc i) = get_or_zeros n i
 
 -- no more different ones than numbers
 pub distinct-length : (l : List ℕ) → distinct l ≤ length l
@@ -92,8 +92,8 @@ distinct-length [] = omega arith
 distinct-length (a ∷ l) = pick (in? a l) (distinct-length l)
   where
     pick : Dec (In a l) → distinct l ≤ length l → distinct (a ∷ l) ≤ suc (length l)
-    pick (yes i) h = omega (arith, distinct-old a l i)
-    pick (no i) h = omega (arith, distinct-new a l i)
+    pick (yes i) h = omega (arith, distinct_old a l i)
+    pick (no i) h = omega (arith, distinct_new a l i)
 
 -- to take out a number is to have one less
 pub distinct_without : (m : ℕ) (l : List ℕ) → In m l → distinct l ≡ suc (distinct (without m l))
@@ -101,10 +101,10 @@ distinct_without m [] i = absurd i
 distinct_without m (a ∷ l) i = pick (ℕ_discrete m a) (in? m l) (in? a l) (distinct_without m l)
   where
     pick : Dec (m ≡ a) → Dec (In m l) → Dec (In a l) → (In m l → distinct l ≡ suc (distinct (without m l))) → distinct (a ∷ l) ≡ suc (distinct (without m (a ∷ l)))
-    pick (yes e) (yes j) k h = rw (without-same m a l e, distinct-old a l (rw e at j)) (h j)
-    pick (yes e) (no j) k h = rw (without-same m a l e, distinct-new a l (λ z. j (rw e z)), without-none m l j)
-    pick (no e) j (yes k) h = rw (without_other m a l e, distinct-old a l k, distinct-old a (without m l) ((in_without a m l (λ z. e (sym z))).1 k)) (h (⊎_elim (λ z. absurd (e z)) (λ z. z) i))
-    pick (no e) j (no k) h = rw (without_other m a l e, distinct-new a l k, distinct-new a (without m l) (λ z. k ((in_without a m l (λ z. e (sym z))).0 z))) (ap suc (h (⊎_elim (λ z. absurd (e z)) (λ z. z) i)))
+    pick (yes e) (yes j) k h = rw (without_same m a l e, distinct_old a l (rw e at j)) (h j)
+    pick (yes e) (no j) k h = rw (without_same m a l e, distinct_new a l (λ z. j (rw e z)), without_none m l j)
+    pick (no e) j (yes k) h = rw (without_other m a l e, distinct_old a l k, distinct_old a (without m l) ((in_without a m l (λ z. e (sym z))).1 k)) (h (⊎_elim (λ z. absurd (e z)) (λ z. z) i))
+    pick (no e) j (no k) h = rw (without_other m a l e, distinct_new a l k, distinct_new a (without m l) (λ z. k ((in_without a m l (λ z. e (sym z))).0 z))) (ap suc (h (⊎_elim (λ z. absurd (e z)) (λ z. z) i)))
 
 pub gone : (m : ℕ) (l : List ℕ) → ¬ In m (without m l)
 unfolding without
@@ -112,39 +112,39 @@ gone m [] i = i
 gone m (a ∷ l) i = pick (ℕ_discrete m a) (gone m l)
   where
     pick : Dec (m ≡ a) → ¬ In m (without m l) → ⊥
-    pick (yes e) f = f (rw (without-same m a l e) at i)
+    pick (yes e) f = f (rw (without_same m a l e) at i)
     pick (no e) f = ⊎_elim e f (rw (without_other m a l e) at i)
 
-skip-length : (b : Bool) (a : ℕ) (l : List ℕ) → length (skip b a l) ≤ suc (length l)
-skip-length true a l = omega arith
-skip-length false a l = omega arith
+skip_length : (b : Bool) (a : ℕ) (l : List ℕ) → length (skip b a l) ≤ suc (length l)
+skip_length true a l = omega arith
+skip_length false a l = omega arith
 
 without-length : (m : ℕ) (l : List ℕ) → length (without m l) ≤ length l
 unfolding without
 without-length m [] = omega arith
-without-length m (a ∷ l) = omega (arith, skip-length (eqb m a) a (without m l), without-length m l)
+without-length m (a ∷ l) = omega (arith, skip_length (eqb m a) a (without m l), without-length m l)
 
 -- a list is shorter without one of its numbers
-pub without-shorter : (m : ℕ) (l : List ℕ) → In m l → length (without m l) < length l
-without-shorter m [] i = absurd i
-without-shorter m (a ∷ l) i = pick (ℕ_discrete m a) (without-shorter m l)
+pub without_shorter : (m : ℕ) (l : List ℕ) → In m l → length (without m l) < length l
+without_shorter m [] i = absurd i
+without_shorter m (a ∷ l) i = pick (ℕ_discrete m a) (without_shorter m l)
   where
     pick : Dec (m ≡ a) → (In m l → length (without m l) < length l) → length (without m (a ∷ l)) < suc (length l)
-    pick (yes e) f = rw (without-same m a l e) (omega (arith, without-length m l))
+    pick (yes e) f = rw (without_same m a l e) (omega (arith, without-length m l))
     pick (no e) f = rw (without_other m a l e) (omega (arith, f (⊎_elim (λ z. absurd (e z)) (λ z. z) i)))
 
 -- a list that holds 1 to n holds at least n different numbers
-pub row-distinct : (n : ℕ) (l : List ℕ) → ((k : ℕ) → 0 < k → k ≤ n → In k l) → n ≤ distinct l
-row-distinct zero l f = omega arith
-row-distinct (suc n) l f = omega (arith, distinct_without (suc n) l (f (suc n) (omega arith) (omega arith)), row-distinct n (without (suc n) l) smaller)
+pub row_distinct : (n : ℕ) (l : List ℕ) → ((k : ℕ) → 0 < k → k ≤ n → In k l) → n ≤ distinct l
+row_distinct zero l f = omega arith
+row_distinct (suc n) l f = omega (arith, distinct_without (suc n) l (f (suc n) (omega arith) (omega arith)), row_distinct n (without (suc n) l) smaller)
   where
     smaller : (k : ℕ) → 0 < k → k ≤ n → In k (without (suc n) l)
     smaller k p h = (in_without k (suc n) l (λ e. omega arith)).1 (f k p (omega arith))
 
 -- 1 to n stand in l, or the least free number is at most n
-count-up : (n : ℕ) (l : List ℕ) → ((k : ℕ) → 0 < k → k ≤ n → In k l) ⊎ ((k : ℕ) × (k ≤ n) × LeastFree l k)
-count-up zero l = inl (λ k p h. absurd (omega arith))
-count-up (suc n) l = pick (count-up n l) (in? (suc n) l)
+count_up : (n : ℕ) (l : List ℕ) → ((k : ℕ) → 0 < k → k ≤ n → In k l) ⊎ ((k : ℕ) × (k ≤ n) × LeastFree l k)
+count_up zero l = inl (λ k p h. absurd (omega arith))
+count_up (suc n) l = pick (count_up n l) (in? (suc n) l)
   where
     pick : ((k : ℕ) → 0 < k → k ≤ n → In k l) ⊎ ((k : ℕ) × (k ≤ n) × LeastFree l k) → Dec (In (suc n) l) → ((k : ℕ) → 0 < k → k ≤ suc n → In k l) ⊎ ((k : ℕ) × (k ≤ suc n) × LeastFree l k)
     pick (inr r) d = inr (r.0, omega arith, r.2)
@@ -156,9 +156,9 @@ count-up (suc n) l = pick (count-up n l) (in? (suc n) l)
         last k p h (no e) = f k p (omega arith)
 
 -- the least free number is at most one more than the number of different ones
-pub least-free : (l : List ℕ) → (k : ℕ) × (k ≤ suc (distinct l)) × LeastFree l k
-least-free l = pick (count-up (suc (distinct l)) l)
+pub least_free_lem : (l : List ℕ) → (k : ℕ) × (k ≤ suc (distinct l)) × LeastFree l k
+least_free_lem l = pick (count_up (suc (distinct l)) l)
   where
     pick : ((k : ℕ) → 0 < k → k ≤ suc (distinct l) → In k l) ⊎ ((k : ℕ) × (k ≤ suc (distinct l)) × LeastFree l k) → (k : ℕ) × (k ≤ suc (distinct l)) × LeastFree l k
     pick (inr r) = r
-    pick (inl f) = absurd (omega (arith, row-distinct (suc (distinct l)) l f))
+    pick (inl f) = absurd (omega (arith, row_distinct (suc (distinct l)) l f))

@@ -3,22 +3,22 @@ use Prim.Native.Nat.{ℕ}
 use Rattle.ccsk.specs.Term.{Term}
 use Rattle.ccsk.specs.Step.{Forward, Undo}
 
-pub undo-of-forward : {t u : Term} {m l : ℕ} → Forward t m l u → Undo u m l t
-undo-of-forward (Forward.top h s) = Undo.top h s
-undo-of-forward (Forward.prefix h n d) = Undo.prefix h n (undo-of-forward d)
-undo-of-forward (Forward.choice₁ s d) = Undo.choice₁ s (undo-of-forward d)
-undo-of-forward (Forward.choice₂ s d) = Undo.choice₂ s (undo-of-forward d)
-undo-of-forward (Forward.par₁ f d) = Undo.par₁ f (undo-of-forward d)
-undo-of-forward (Forward.par₂ f d) = Undo.par₂ f (undo-of-forward d)
-undo-of-forward (Forward.synch c d e) = Undo.synch c (undo-of-forward d) (undo-of-forward e)
-undo-of-forward (Forward.restrict f d) = Undo.restrict f (undo-of-forward d)
+pub undo_of_forward : {t u : Term} {m l : ℕ} → Forward t m l u → Undo u m l t
+undo_of_forward (Forward.top h s) = Undo.top h s
+undo_of_forward (Forward.prefix h n d) = Undo.prefix h n (undo_of_forward d)
+undo_of_forward (Forward.choice₁ s d) = Undo.choice₁ s (undo_of_forward d)
+undo_of_forward (Forward.choice₂ s d) = Undo.choice₂ s (undo_of_forward d)
+undo_of_forward (Forward.par₁ f d) = Undo.par₁ f (undo_of_forward d)
+undo_of_forward (Forward.par₂ f d) = Undo.par₂ f (undo_of_forward d)
+undo_of_forward (Forward.synch c d e) = Undo.synch c (undo_of_forward d) (undo_of_forward e)
+undo_of_forward (Forward.restrict f d) = Undo.restrict f (undo_of_forward d)
 
-pub forward-of-undo : {t u : Term} {m l : ℕ} → Undo t m l u → Forward u m l t
-forward-of-undo (Undo.top h s) = Forward.top h s
-forward-of-undo (Undo.prefix h n d) = Forward.prefix h n (forward-of-undo d)
-forward-of-undo (Undo.choice₁ s d) = Forward.choice₁ s (forward-of-undo d)
-forward-of-undo (Undo.choice₂ s d) = Forward.choice₂ s (forward-of-undo d)
-forward-of-undo (Undo.par₁ f d) = Forward.par₁ f (forward-of-undo d)
-forward-of-undo (Undo.par₂ f d) = Forward.par₂ f (forward-of-undo d)
-forward-of-undo (Undo.synch c d e) = Forward.synch c (forward-of-undo d) (forward-of-undo e)
-forward-of-undo (Undo.restrict f d) = Forward.restrict f (forward-of-undo d)
+pub forward_of_undo : {t u : Term} {m l : ℕ} → Undo t m l u → Forward u m l t
+forward_of_undo (Undo.top h s) = Forward.top h s
+forward_of_undo (Undo.prefix h n d) = Forward.prefix h n (forward_of_undo d)
+forward_of_undo (Undo.choice₁ s d) = Forward.choice₁ s (forward_of_undo d)
+forward_of_undo (Undo.choice₂ s d) = Forward.choice₂ s (forward_of_undo d)
+forward_of_undo (Undo.par₁ f d) = Forward.par₁ f (forward_of_undo d)
+forward_of_undo (Undo.par₂ f d) = Forward.par₂ f (forward_of_undo d)
+forward_of_undo (Undo.synch c d e) = Forward.synch c (forward_of_undo d) (forward_of_undo e)
+forward_of_undo (Undo.restrict f d) = Forward.restrict f (forward_of_undo d)

@@ -12,43 +12,43 @@ use Rattle.ccsk.specs.Step.{Forward, Forward.top, Forward.prefix, Forward.choice
 use Rattle.ccsk.specs.Place.{shift, places, mark, marks}
 
 -- the action of node p; 0 where it is no prefix
-unfoldable pub actionAt : Node → Term → Label
-actionAt p nil = 0
-actionAt zero (pre a k t) = a
-actionAt (suc p) (pre a k t) = actionAt p t
-actionAt zero (cho t u) = 0
-actionAt (suc p) (cho t u) = cond (ltb p (size t)) (actionAt p t) (actionAt (p - size t) u)
-actionAt zero (par t u) = 0
-actionAt (suc p) (par t u) = cond (ltb p (size t)) (actionAt p t) (actionAt (p - size t) u)
-actionAt zero (res a t) = 0
-actionAt (suc p) (res a t) = actionAt p t
+unfoldable pub action_at : Node → Term → Label
+action_at p nil = 0
+action_at zero (pre a k t) = a
+action_at (suc p) (pre a k t) = action_at p t
+action_at zero (cho t u) = 0
+action_at (suc p) (cho t u) = cond (ltb p (size t)) (action_at p t) (action_at (p - size t) u)
+action_at zero (par t u) = 0
+action_at (suc p) (par t u) = cond (ltb p (size t)) (action_at p t) (action_at (p - size t) u)
+action_at zero (res a t) = 0
+action_at (suc p) (res a t) = action_at p t
 
 -- all numbers of the list are below n
 abbrev pub Under : ℕ → List ℕ → Type 0
 Under n [] = Unit {0}
 Under n (p ∷ l) = (p < n) × Under n l
 
-pub under-shift : (k n b : ℕ) (l : List ℕ) → k + n ≤ b → Under n l → Under b (shift k l)
+pub under_shift : (k n b : ℕ) (l : List ℕ) → k + n ≤ b → Under n l → Under b (shift k l)
 unfolding shift
-under-shift k n b [] h u = tt
-under-shift k n b (p ∷ l) h u = (omega arith, under-shift k n b l h u.1)
+under_shift k n b [] h u = tt
+under_shift k n b (p ∷ l) h u = (omega arith, under_shift k n b l h u.1)
 
-pub under-append : (n : ℕ) (x y : List ℕ) → Under n x → Under n y → Under n (x ++ y)
-under-append n [] y u v = v
-under-append n (p ∷ x) y u v = (u.0, under-append n x y u.1 v)
+pub under_append : (n : ℕ) (x y : List ℕ) → Under n x → Under n y → Under n (x ++ y)
+under_append n [] y u v = v
+under_append n (p ∷ x) y u v = (u.0, under_append n x y u.1 v)
 
-pub places-under : {t u : Term} {m l : ℕ} (d : Forward t m l u) → Under (size t) (places d)
+pub places_under : {t u : Term} {m l : ℕ} (d : Forward t m l u) → Under (size t) (places d)
 unfolding places size
-places-under (top h s) = (omega arith, tt)
-places-under (prefix {t = t} h n d) = under-shift 1 (size t) (suc (size t)) (places d) (omega arith) (places-under d)
-places-under (choice₁ {t = t} {u = u} s d) = under-shift 1 (size t) (suc (size t + size u)) (places d) (omega arith) (places-under d)
-places-under (choice₂ {t = t} {u = u} s d) = under-shift (1 + size t) (size u) (suc (size t + size u)) (places d) (omega arith) (places-under d)
-places-under (par₁ {t = t} {u = u} f d) = under-shift 1 (size t) (suc (size t + size u)) (places d) (omega arith) (places-under d)
-places-under (par₂ {t = t} {u = u} f d) = under-shift (1 + size t) (size u) (suc (size t + size u)) (places d) (omega arith) (places-under d)
-places-under (synch {t = t} {u = u} c d e) = under-append (suc (size t + size u)) (shift 1 (places d)) (shift (1 + size t) (places e))
-    (under-shift 1 (size t) (suc (size t + size u)) (places d) (omega arith) (places-under d))
-    (under-shift (1 + size t) (size u) (suc (size t + size u)) (places e) (omega arith) (places-under e))
-places-under (restrict {t = t} f d) = under-shift 1 (size t) (suc (size t)) (places d) (omega arith) (places-under d)
+places_under (top h s) = (omega arith, tt)
+places_under (prefix {t = t} h n d) = under_shift 1 (size t) (suc (size t)) (places d) (omega arith) (places_under d)
+places_under (choice₁ {t = t} {u = u} s d) = under_shift 1 (size t) (suc (size t + size u)) (places d) (omega arith) (places_under d)
+places_under (choice₂ {t = t} {u = u} s d) = under_shift (1 + size t) (size u) (suc (size t + size u)) (places d) (omega arith) (places_under d)
+places_under (par₁ {t = t} {u = u} f d) = under_shift 1 (size t) (suc (size t + size u)) (places d) (omega arith) (places_under d)
+places_under (par₂ {t = t} {u = u} f d) = under_shift (1 + size t) (size u) (suc (size t + size u)) (places d) (omega arith) (places_under d)
+places_under (synch {t = t} {u = u} c d e) = under_append (suc (size t + size u)) (shift 1 (places d)) (shift (1 + size t) (places e))
+    (under_shift 1 (size t) (suc (size t + size u)) (places d) (omega arith) (places_under d))
+    (under_shift (1 + size t) (size u) (suc (size t + size u)) (places e) (omega arith) (places_under e))
+places_under (restrict {t = t} f d) = under_shift 1 (size t) (suc (size t)) (places d) (omega arith) (places_under d)
 
 one_up : (p : ℕ) → 1 + p ≡ suc p
 one_up p = omega arith
@@ -99,100 +99,100 @@ unfolding marks shift mark
 marks-res m [] a t = refl
 marks-res m (p ∷ l) a t = rw (one_up p) (marks-res m l a (mark m p t))
 
-marks-cho₁ : (m : ℕ) (l : List ℕ) (t u : Term) → Under (size t) l → marks m (shift 1 l) (cho t u) ≡ cho (marks m l t) u
+marks_cho₁ : (m : ℕ) (l : List ℕ) (t u : Term) → Under (size t) l → marks m (shift 1 l) (cho t u) ≡ cho (marks m l t) u
 unfolding marks shift mark
-marks-cho₁ m [] t u h = refl
-marks-cho₁ m (p ∷ l) t u h = rw (one_up p, lt-ltb p (size t) h.0) (marks-cho₁ m l (mark m p t) u (rw (size-mark m p t) h.1))
+marks_cho₁ m [] t u h = refl
+marks_cho₁ m (p ∷ l) t u h = rw (one_up p, lt-ltb p (size t) h.0) (marks_cho₁ m l (mark m p t) u (rw (size-mark m p t) h.1))
 
-marks-par₁ : (m : ℕ) (l : List ℕ) (t u : Term) → Under (size t) l → marks m (shift 1 l) (par t u) ≡ par (marks m l t) u
+marks_par₁ : (m : ℕ) (l : List ℕ) (t u : Term) → Under (size t) l → marks m (shift 1 l) (par t u) ≡ par (marks m l t) u
 unfolding marks shift mark
-marks-par₁ m [] t u h = refl
-marks-par₁ m (p ∷ l) t u h = rw (one_up p, lt-ltb p (size t) h.0) (marks-par₁ m l (mark m p t) u (rw (size-mark m p t) h.1))
+marks_par₁ m [] t u h = refl
+marks_par₁ m (p ∷ l) t u h = rw (one_up p, lt-ltb p (size t) h.0) (marks_par₁ m l (mark m p t) u (rw (size-mark m p t) h.1))
 
-marks-cho₂ : (m : ℕ) (l : List ℕ) (t u : Term) → marks m (shift (1 + size t) l) (cho t u) ≡ cho t (marks m l u)
+marks_cho₂ : (m : ℕ) (l : List ℕ) (t u : Term) → marks m (shift (1 + size t) l) (cho t u) ≡ cho t (marks m l u)
 unfolding marks shift mark
-marks-cho₂ m [] t u = refl
-marks-cho₂ m (p ∷ l) t u = rw (up (size t) p, le-ltb (size t + p) (size t) (omega arith), back (size t) p) (marks-cho₂ m l t (mark m p u))
+marks_cho₂ m [] t u = refl
+marks_cho₂ m (p ∷ l) t u = rw (up (size t) p, le-ltb (size t + p) (size t) (omega arith), back (size t) p) (marks_cho₂ m l t (mark m p u))
 
-marks-par₂ : (m : ℕ) (l : List ℕ) (t u : Term) → marks m (shift (1 + size t) l) (par t u) ≡ par t (marks m l u)
+marks_par₂ : (m : ℕ) (l : List ℕ) (t u : Term) → marks m (shift (1 + size t) l) (par t u) ≡ par t (marks m l u)
 unfolding marks shift mark
-marks-par₂ m [] t u = refl
-marks-par₂ m (p ∷ l) t u = rw (up (size t) p, le-ltb (size t + p) (size t) (omega arith), back (size t) p) (marks-par₂ m l t (mark m p u))
+marks_par₂ m [] t u = refl
+marks_par₂ m (p ∷ l) t u = rw (up (size t) p, le-ltb (size t + p) (size t) (omega arith), back (size t) p) (marks_par₂ m l t (mark m p u))
 
 two : (m : ℕ) (t t' u u' : Term) (x y : List ℕ) → Under (size t) x → marks m x t ≡ t' → marks m y u ≡ u' → marks m (shift 1 x ++ shift (1 + size t) y) (par t u) ≡ par t' u'
-two m t t' u u' x y h e f = rw (marks-append m (shift 1 x) (shift (1 + size t) y) (par t u), marks-par₁ m x t u h, ← size-marks m x t, marks-par₂ m y (marks m x t) u, e, f)
+two m t t' u u' x y h e f = rw (marks-append m (shift 1 x) (shift (1 + size t) y) (par t u), marks_par₁ m x t u h, ← size-marks m x t, marks_par₂ m y (marks m x t) u, e, f)
 
 -- the step's result is the term with the key at the places
-pub step-marks : {t u : Term} {m l : ℕ} (d : Forward t m l u) → marks m (places d) t ≡ u
+pub step_marks : {t u : Term} {m l : ℕ} (d : Forward t m l u) → marks m (places d) t ≡ u
 unfolding places
-step-marks (top h s) = unfold marks mark in refl
-step-marks (prefix {a = a} {n = n} {m = m} {t = t} h f d) = rw (marks-pre m (places d) a n t, step-marks d)
-step-marks (choice₁ {m = m} {t = t} {u = u} s d) = rw (marks-cho₁ m (places d) t u (places-under d), step-marks d)
-step-marks (choice₂ {m = m} {t = t} {u = u} s d) = rw (marks-cho₂ m (places d) t u, step-marks d)
-step-marks (par₁ {m = m} {t = t} {u = u} f d) = rw (marks-par₁ m (places d) t u (places-under d), step-marks d)
-step-marks (par₂ {m = m} {t = t} {u = u} f d) = rw (marks-par₂ m (places d) t u, step-marks d)
-step-marks (synch {m = m} {t = t} {t' = t'} {u = u} {u' = u'} c d e) = two m t t' u u' (places d) (places e) (places-under d) (step-marks d) (step-marks e)
-step-marks (restrict {a = a} {m = m} {t = t} f d) = rw (marks-res m (places d) a t, step-marks d)
+step_marks (top h s) = unfold marks mark in refl
+step_marks (prefix {a = a} {n = n} {m = m} {t = t} h f d) = rw (marks-pre m (places d) a n t, step_marks d)
+step_marks (choice₁ {m = m} {t = t} {u = u} s d) = rw (marks_cho₁ m (places d) t u (places_under d), step_marks d)
+step_marks (choice₂ {m = m} {t = t} {u = u} s d) = rw (marks_cho₂ m (places d) t u, step_marks d)
+step_marks (par₁ {m = m} {t = t} {u = u} f d) = rw (marks_par₁ m (places d) t u (places_under d), step_marks d)
+step_marks (par₂ {m = m} {t = t} {u = u} f d) = rw (marks_par₂ m (places d) t u, step_marks d)
+step_marks (synch {m = m} {t = t} {t' = t'} {u = u} {u' = u'} c d e) = two m t t' u u' (places d) (places e) (places_under d) (step_marks d) (step_marks e)
+step_marks (restrict {a = a} {m = m} {t = t} f d) = rw (marks-res m (places d) a t, step_marks d)
 
 -- the label: of one place its action, of two complementary places tau
 pub data Placed (t : Term) (l : ℕ) : List ℕ → Type 0 where
-  alone : (p : ℕ) → actionAt p t ≡ l → Placed t l (p ∷ [])
-  joined : (p q : ℕ) → p < q → l ≡ 0 → Co (actionAt p t) (actionAt q t) → Placed t l (p ∷ (q ∷ []))
+  alone : (p : ℕ) → action_at p t ≡ l → Placed t l (p ∷ [])
+  joined : (p q : ℕ) → p < q → l ≡ 0 → Co (action_at p t) (action_at q t) → Placed t l (p ∷ (q ∷ []))
 
-lift : {t : Term} {l : ℕ} {x : List ℕ} (k : ℕ) (u : Term) → ((p : ℕ) → p < size t → actionAt (k + p) u ≡ actionAt p t) → Placed t l x → Under (size t) x → Placed u l (shift k x)
+lift : {t : Term} {l : ℕ} {x : List ℕ} (k : ℕ) (u : Term) → ((p : ℕ) → p < size t → action_at (k + p) u ≡ action_at p t) → Placed t l x → Under (size t) x → Placed u l (shift k x)
 unfolding shift
 lift k u f (alone p e) h = alone (k + p) (f p h.0 ∙ e)
 lift k u f (joined p q o z c) h = joined (k + p) (k + q) (omega arith) z (rw (f p h.0, f q h.1.0) c)
 
-act-pre : (a k p : ℕ) (t : Term) → actionAt (1 + p) (pre a k t) ≡ actionAt p t
-unfolding actionAt
-act-pre a k p t = rw (one_up p)
+act_pre : (a k p : ℕ) (t : Term) → action_at (1 + p) (pre a k t) ≡ action_at p t
+unfolding action_at
+act_pre a k p t = rw (one_up p)
 
-act-res : (a p : ℕ) (t : Term) → actionAt (1 + p) (res a t) ≡ actionAt p t
-unfolding actionAt
-act-res a p t = rw (one_up p)
+act_res : (a p : ℕ) (t : Term) → action_at (1 + p) (res a t) ≡ action_at p t
+unfolding action_at
+act_res a p t = rw (one_up p)
 
-act-cho₁ : (p : ℕ) (t u : Term) → p < size t → actionAt (1 + p) (cho t u) ≡ actionAt p t
-unfolding actionAt
-act-cho₁ p t u h = rw (one_up p, lt-ltb p (size t) h)
+act_cho₁ : (p : ℕ) (t u : Term) → p < size t → action_at (1 + p) (cho t u) ≡ action_at p t
+unfolding action_at
+act_cho₁ p t u h = rw (one_up p, lt-ltb p (size t) h)
 
-act-par₁ : (p : ℕ) (t u : Term) → p < size t → actionAt (1 + p) (par t u) ≡ actionAt p t
-unfolding actionAt
-act-par₁ p t u h = rw (one_up p, lt-ltb p (size t) h)
+act_par₁ : (p : ℕ) (t u : Term) → p < size t → action_at (1 + p) (par t u) ≡ action_at p t
+unfolding action_at
+act_par₁ p t u h = rw (one_up p, lt-ltb p (size t) h)
 
-act-cho₂ : (p : ℕ) (t u : Term) → actionAt ((1 + size t) + p) (cho t u) ≡ actionAt p u
-unfolding actionAt
-act-cho₂ p t u = rw (up (size t) p, le-ltb (size t + p) (size t) (omega arith), back (size t) p)
+act_cho₂ : (p : ℕ) (t u : Term) → action_at ((1 + size t) + p) (cho t u) ≡ action_at p u
+unfolding action_at
+act_cho₂ p t u = rw (up (size t) p, le-ltb (size t + p) (size t) (omega arith), back (size t) p)
 
-act-par₂ : (p : ℕ) (t u : Term) → actionAt ((1 + size t) + p) (par t u) ≡ actionAt p u
-unfolding actionAt
-act-par₂ p t u = rw (up (size t) p, le-ltb (size t + p) (size t) (omega arith), back (size t) p)
+act_par₂ : (p : ℕ) (t u : Term) → action_at ((1 + size t) + p) (par t u) ≡ action_at p u
+unfolding action_at
+act_par₂ p t u = rw (up (size t) p, le-ltb (size t + p) (size t) (omega arith), back (size t) p)
 
-pub co-pos : {a b : ℕ} → Co a b → (0 < a) × (0 < b)
-co-pos (inl c) = omega arith
-co-pos (inr c) = omega arith
+pub co_pos : {a b : ℕ} → Co a b → (0 < a) × (0 < b)
+co_pos (inl c) = omega arith
+co_pos (inr c) = omega arith
 
 join : {t u : Term} {l k : ℕ} {x y : List ℕ} → Co l k → Placed t l x → Placed u k y → Under (size t) x → Placed (par t u) 0 (shift 1 x ++ shift (1 + size t) y)
 unfolding shift
-join {t} {u} c (alone p e) (alone q f) h = joined (1 + p) ((1 + size t) + q) (omega arith) refl (rw (act-par₁ p t u h.0, act-par₂ q t u, e, f) c)
-join c (joined p q o z s) f h = absurd (omega (arith, co-pos c))
-join c (alone p e) (joined p' q o z s) h = absurd (omega (arith, co-pos c))
+join {t} {u} c (alone p e) (alone q f) h = joined (1 + p) ((1 + size t) + q) (omega arith) refl (rw (act_par₁ p t u h.0, act_par₂ q t u, e, f) c)
+join c (joined p q o z s) f h = absurd (omega (arith, co_pos c))
+join c (alone p e) (joined p' q o z s) h = absurd (omega (arith, co_pos c))
 
-pub step-placed : {t u : Term} {m l : ℕ} (d : Forward t m l u) → Placed t l (places d)
+pub step_placed : {t u : Term} {m l : ℕ} (d : Forward t m l u) → Placed t l (places d)
 unfolding places
-step-placed (top h s) = alone 0 (unfold actionAt in refl)
-step-placed (prefix {a = a} {n = n} {t = t} h f d) = lift 1 (pre a n t) (λ p i. act-pre a n p t) (step-placed d) (places-under d)
-step-placed (choice₁ {t = t} {u = u} s d) = lift 1 (cho t u) (λ p i. act-cho₁ p t u i) (step-placed d) (places-under d)
-step-placed (choice₂ {t = t} {u = u} s d) = lift (1 + size t) (cho t u) (λ p i. act-cho₂ p t u) (step-placed d) (places-under d)
-step-placed (par₁ {t = t} {u = u} f d) = lift 1 (par t u) (λ p i. act-par₁ p t u i) (step-placed d) (places-under d)
-step-placed (par₂ {t = t} {u = u} f d) = lift (1 + size t) (par t u) (λ p i. act-par₂ p t u) (step-placed d) (places-under d)
-step-placed (synch c d e) = join c (step-placed d) (step-placed e) (places-under d)
-step-placed (restrict {a = a} {t = t} f d) = lift 1 (res a t) (λ p i. act-res a p t) (step-placed d) (places-under d)
+step_placed (top h s) = alone 0 (unfold action_at in refl)
+step_placed (prefix {a = a} {n = n} {t = t} h f d) = lift 1 (pre a n t) (λ p i. act_pre a n p t) (step_placed d) (places_under d)
+step_placed (choice₁ {t = t} {u = u} s d) = lift 1 (cho t u) (λ p i. act_cho₁ p t u i) (step_placed d) (places_under d)
+step_placed (choice₂ {t = t} {u = u} s d) = lift (1 + size t) (cho t u) (λ p i. act_cho₂ p t u) (step_placed d) (places_under d)
+step_placed (par₁ {t = t} {u = u} f d) = lift 1 (par t u) (λ p i. act_par₁ p t u i) (step_placed d) (places_under d)
+step_placed (par₂ {t = t} {u = u} f d) = lift (1 + size t) (par t u) (λ p i. act_par₂ p t u) (step_placed d) (places_under d)
+step_placed (synch c d e) = join c (step_placed d) (step_placed e) (places_under d)
+step_placed (restrict {a = a} {t = t} f d) = lift 1 (res a t) (λ p i. act_res a p t) (step_placed d) (places_under d)
 
-label-once : {t : Term} {l k : ℕ} {x : List ℕ} → Placed t l x → Placed t k x → l ≡ k
-label-once (alone p e) (alone q f) = cc
-label-once (joined p q o z c) (joined p' q' o' z' c') = cc
+label_once : {t : Term} {l k : ℕ} {x : List ℕ} → Placed t l x → Placed t k x → l ≡ k
+label_once (alone p e) (alone q f) = cc
+label_once (joined p q o z c) (joined p' q' o' z' c') = cc
 
 -- the places and the key determine label and result
-pub step-once : {t u v : Term} {m l k : ℕ} (d : Forward t m l u) (e : Forward t m k v) → places d ≡ places e → (l ≡ k) × (u ≡ v)
-step-once {m = m} d e q = (label-once (rw q at (step-placed d)) (step-placed e), cc (step-marks d, step-marks e))
+pub step_once : {t u v : Term} {m l k : ℕ} (d : Forward t m l u) (e : Forward t m k v) → places d ≡ places e → (l ≡ k) × (u ≡ v)
+step_once {m = m} d e q = (label_once (rw q at (step_placed d)) (step_placed e), cc (step_marks d, step_marks e))

@@ -6,17 +6,17 @@ use borrow.Author.Tests.{ne_eqb}
 use lib.Dec.{eqb}
 use Rattle.ccsk.specs.Term.{Term, pre, cho, par, res, Std, Has, labels, tick, blank}
 use Rattle.ccsk.specs.Step.{Undo, Undo.top, Undo.prefix, Undo.choice₁, Undo.choice₂, Undo.par₁, Undo.par₂, Undo.synch, Undo.restrict}
-use Rattle.ccsk.proofs.Basic.{never, std-has, fresh-labels, labels-fresh}
+use Rattle.ccsk.proofs.Basic.{never, std_has, fresh_labels, labels_fresh}
 
-pub key-pos : {t u : Term} {m l : ℕ} → Undo t m l u → 0 < m
-key-pos (top h s) = h
-key-pos (prefix h n d) = key-pos d
-key-pos (choice₁ s d) = key-pos d
-key-pos (choice₂ s d) = key-pos d
-key-pos (par₁ f d) = key-pos d
-key-pos (par₂ f d) = key-pos d
-key-pos (synch c d e) = key-pos d
-key-pos (restrict f d) = key-pos d
+pub key_pos : {t u : Term} {m l : ℕ} → Undo t m l u → 0 < m
+key_pos (top h s) = h
+key_pos (prefix h n d) = key_pos d
+key_pos (choice₁ s d) = key_pos d
+key_pos (choice₂ s d) = key_pos d
+key_pos (par₁ f d) = key_pos d
+key_pos (par₂ f d) = key_pos d
+key_pos (synch c d e) = key_pos d
+key_pos (restrict f d) = key_pos d
 
 -- the key stands in the term before
 pub present : {t u : Term} {m l : ℕ} → Undo t m l u → Has m t
@@ -30,18 +30,18 @@ present (synch c d e) = inl (present d)
 present (restrict f d) = present d
 
 -- a standard term has no undo
-pub std-stuck : {t u : Term} {m l : ℕ} → Std t → Undo t m l u → ⊥
-std-stuck {t} s d = std-has t s (key-pos d) (present d)
+pub std_stuck : {t u : Term} {m l : ℕ} → Std t → Undo t m l u → ⊥
+std_stuck {t} s d = std_has t s (key_pos d) (present d)
 
 -- and nowhere after
 pub absent : {t u : Term} {m l : ℕ} → Undo t m l u → ¬ Has m u
 absent (top h s) (inl e) = never h e
-absent (top {t = t} h s) (inr i) = std-has t s h i
+absent (top {t = t} h s) (inr i) = std_has t s h i
 absent (prefix h n d) (inl e) = n e
 absent (prefix h n d) (inr i) = absent d i
 absent (choice₁ s d) (inl i) = absent d i
-absent (choice₁ {u = u} s d) (inr i) = std-has u s (key-pos d) i
-absent (choice₂ {t = t} s d) (inl i) = std-has t s (key-pos d) i
+absent (choice₁ {u = u} s d) (inr i) = std_has u s (key_pos d) i
+absent (choice₂ {t = t} s d) (inl i) = std_has t s (key_pos d) i
 absent (choice₂ s d) (inr i) = absent d i
 absent (par₁ f d) (inl i) = absent d i
 absent (par₁ f d) (inr i) = f i
@@ -52,75 +52,75 @@ absent (synch c d e) (inr i) = absent e i
 absent (restrict f d) i = absent d i
 
 -- every other key marks what it marked
-pub labels-kept : {t u : Term} {m l : ℕ} (n : ℕ) → Undo t m l u → 0 < n → n ≢ m → labels n t ≡ labels n u
+pub labels_kept : {t u : Term} {m l : ℕ} (n : ℕ) → Undo t m l u → 0 < n → n ≢ m → labels n t ≡ labels n u
 unfolding labels
-labels-kept n (top {m = m} h s) p e = rw (ne_eqb n m e, ne_eqb n 0 (never p))
-labels-kept n (prefix {a = a} {n = k} h f d) p e = ap (tick (eqb n k) a) (labels-kept n d p e)
-labels-kept n (choice₁ {u = u} s d) p e = rw (labels-kept n d p e)
-labels-kept n (choice₂ {t = t} s d) p e = rw (labels-kept n d p e)
-labels-kept n (par₁ {u = u} f d) p e = rw (labels-kept n d p e)
-labels-kept n (par₂ {t = t} f d) p e = rw (labels-kept n d p e)
-labels-kept n (synch c d d') p e = rw (labels-kept n d p e, labels-kept n d' p e)
-labels-kept n (restrict f d) p e = labels-kept n d p e
+labels_kept n (top {m = m} h s) p e = rw (ne_eqb n m e, ne_eqb n 0 (never p))
+labels_kept n (prefix {a = a} {n = k} h f d) p e = ap (tick (eqb n k) a) (labels_kept n d p e)
+labels_kept n (choice₁ {u = u} s d) p e = rw (labels_kept n d p e)
+labels_kept n (choice₂ {t = t} s d) p e = rw (labels_kept n d p e)
+labels_kept n (par₁ {u = u} f d) p e = rw (labels_kept n d p e)
+labels_kept n (par₂ {t = t} f d) p e = rw (labels_kept n d p e)
+labels_kept n (synch c d d') p e = rw (labels_kept n d p e, labels_kept n d' p e)
+labels_kept n (restrict f d) p e = labels_kept n d p e
 
 pub has_kept : {t u : Term} {m l : ℕ} (n : ℕ) → Undo t m l u → 0 < n → n ≢ m → ¬ Has n t ↔ ¬ Has n u
-has_kept {t} {u} n d p e = (λ f. labels-fresh n u (rw (labels-kept n d p e) at (fresh-labels n t f)), λ f. labels-fresh n t (rw (labels-kept n d p e) (fresh-labels n u f)))
+has_kept {t} {u} n d p e = (λ f. labels_fresh n u (rw (labels_kept n d p e) at (fresh_labels n t f)), λ f. labels_fresh n t (rw (labels_kept n d p e) (fresh_labels n u f)))
 
 -- at most one undo for a key
-pub undo-once : {t u v : Term} {m l k : ℕ} → Undo t m l u → Undo t m k v → (l ≡ k) × (u ≡ v)
-undo-once (top h s) (top h' s') = (refl, refl)
-undo-once (top h s) (prefix h' n e) = absurd (n refl)
-undo-once (prefix h n d) (top h' s) = absurd (n refl)
-undo-once (prefix {a = a} {n = n} h f d) (prefix h' f' e) = let i = undo-once d e in (i.0, ap (pre a n) i.1)
-undo-once (choice₁ s d) (choice₁ s' e) = let i = undo-once d e in (i.0, cc)
-undo-once (choice₁ s d) (choice₂ s' e) = absurd (std-stuck s' d)
-undo-once (choice₂ s d) (choice₁ s' e) = absurd (std-stuck s' d)
-undo-once (choice₂ s d) (choice₂ s' e) = let i = undo-once d e in (i.0, cc)
-undo-once (par₁ f d) (par₁ f' e) = let i = undo-once d e in (i.0, cc)
-undo-once (par₁ f d) (par₂ f' e) = absurd (f' (present d))
-undo-once (par₁ f d) (synch c e e') = absurd (f (present e'))
-undo-once (par₂ f d) (par₁ f' e) = absurd (f' (present d))
-undo-once (par₂ f d) (par₂ f' e) = let i = undo-once d e in (i.0, cc)
-undo-once (par₂ f d) (synch c e e') = absurd (f (present e))
-undo-once (synch c d d') (par₁ f e) = absurd (f (present d'))
-undo-once (synch c d d') (par₂ f e) = absurd (f (present d))
-undo-once (synch c d d') (synch c' e e') = let i = undo-once d e in let j = undo-once d' e' in (refl, cc)
-undo-once (restrict {a = a} f d) (restrict f' e) = let i = undo-once d e in (i.0, ap (res a) i.1)
+pub undo_once : {t u v : Term} {m l k : ℕ} → Undo t m l u → Undo t m k v → (l ≡ k) × (u ≡ v)
+undo_once (top h s) (top h' s') = (refl, refl)
+undo_once (top h s) (prefix h' n e) = absurd (n refl)
+undo_once (prefix h n d) (top h' s) = absurd (n refl)
+undo_once (prefix {a = a} {n = n} h f d) (prefix h' f' e) = let i = undo_once d e in (i.0, ap (pre a n) i.1)
+undo_once (choice₁ s d) (choice₁ s' e) = let i = undo_once d e in (i.0, cc)
+undo_once (choice₁ s d) (choice₂ s' e) = absurd (std_stuck s' d)
+undo_once (choice₂ s d) (choice₁ s' e) = absurd (std_stuck s' d)
+undo_once (choice₂ s d) (choice₂ s' e) = let i = undo_once d e in (i.0, cc)
+undo_once (par₁ f d) (par₁ f' e) = let i = undo_once d e in (i.0, cc)
+undo_once (par₁ f d) (par₂ f' e) = absurd (f' (present d))
+undo_once (par₁ f d) (synch c e e') = absurd (f (present e'))
+undo_once (par₂ f d) (par₁ f' e) = absurd (f' (present d))
+undo_once (par₂ f d) (par₂ f' e) = let i = undo_once d e in (i.0, cc)
+undo_once (par₂ f d) (synch c e e') = absurd (f (present e))
+undo_once (synch c d d') (par₁ f e) = absurd (f (present d'))
+undo_once (synch c d d') (par₂ f e) = absurd (f (present d))
+undo_once (synch c d d') (synch c' e e') = let i = undo_once d e in let j = undo_once d' e' in (refl, cc)
+undo_once (restrict {a = a} f d) (restrict f' e) = let i = undo_once d e in (i.0, ap (res a) i.1)
 
-pub blank-kept : {t u : Term} {m l : ℕ} → Undo t m l u → blank t ≡ blank u
+pub blank_kept : {t u : Term} {m l : ℕ} → Undo t m l u → blank t ≡ blank u
 unfolding blank
-blank-kept (top h s) = refl
-blank-kept (prefix {a = a} h n d) = ap (pre a 0) (blank-kept d)
-blank-kept (choice₁ s d) = rw (blank-kept d)
-blank-kept (choice₂ s d) = rw (blank-kept d)
-blank-kept (par₁ f d) = rw (blank-kept d)
-blank-kept (par₂ f d) = rw (blank-kept d)
-blank-kept (synch c d e) = rw (blank-kept d, blank-kept e)
-blank-kept (restrict f d) = rw (blank-kept d)
+blank_kept (top h s) = refl
+blank_kept (prefix {a = a} h n d) = ap (pre a 0) (blank_kept d)
+blank_kept (choice₁ s d) = rw (blank_kept d)
+blank_kept (choice₂ s d) = rw (blank_kept d)
+blank_kept (par₁ f d) = rw (blank_kept d)
+blank_kept (par₂ f d) = rw (blank_kept d)
+blank_kept (synch c d e) = rw (blank_kept d, blank_kept e)
+blank_kept (restrict f d) = rw (blank_kept d)
 
 -- two undos by different keys commute, on any term
 abbrev pub Meet : Term → ℕ → ℕ → Term → ℕ → ℕ → Type 0
 Meet u n k v m l = (w : Term) × Undo u n k w × Undo v m l w
 
-fresh-after : {t u : Term} {m l : ℕ} (n : ℕ) → Undo t m l u → 0 < n → n ≢ m → ¬ Has n t → ¬ Has n u
-fresh-after n d p e = (has_kept n d p e).0
+fresh_after : {t u : Term} {m l : ℕ} (n : ℕ) → Undo t m l u → 0 < n → n ≢ m → ¬ Has n t → ¬ Has n u
+fresh_after n d p e = (has_kept n d p e).0
 
 pub diamond : {t u v : Term} {m l n k : ℕ} → m ≢ n → Undo t m l u → Undo t n k v → Meet u n k v m l
 diamond e (top h s) (top h' s') = absurd (e refl)
-diamond e (top h s) (prefix h' n d) = absurd (std-stuck s d)
-diamond e (prefix h n d) (top h' s) = absurd (std-stuck s d)
+diamond e (top h s) (prefix h' n d) = absurd (std_stuck s d)
+diamond e (prefix h n d) (top h' s) = absurd (std_stuck s d)
 diamond e (prefix {a = a} {n = n} h f d) (prefix h' f' d') = let i = diamond e d d' in (pre a n i.0, prefix h f' i.1, prefix h f i.2)
 diamond e (choice₁ {u = u} s d) (choice₁ s' d') = let i = diamond e d d' in (cho i.0 u, choice₁ s i.1, choice₁ s i.2)
-diamond e (choice₁ s d) (choice₂ s' d') = absurd (std-stuck s d')
-diamond e (choice₂ s d) (choice₁ s' d') = absurd (std-stuck s d')
+diamond e (choice₁ s d) (choice₂ s' d') = absurd (std_stuck s d')
+diamond e (choice₂ s d) (choice₁ s' d') = absurd (std_stuck s d')
 diamond e (choice₂ {t = t} s d) (choice₂ s' d') = let i = diamond e d d' in (cho t i.0, choice₂ s i.1, choice₂ s i.2)
 diamond e (par₁ {u = u} f d) (par₁ f' d') = let i = diamond e d d' in (par i.0 u, par₁ f' i.1, par₁ f i.2)
-diamond {m = m} {n = n} e (par₁ {t' = t'} f d) (par₂ {u' = u'} f' d') = (par t' u', par₂ (fresh-after n d (key-pos d') (λ q. e (sym q)) f') d', par₁ (fresh-after m d' (key-pos d) e f) d)
-diamond {m = m} e (par₁ {u = u} f d) (synch {u' = u'} c d' e') = let i = diamond e d d' in (par i.0 u', synch c i.1 e', par₁ (fresh-after m e' (key-pos d) e f) i.2)
-diamond {m = m} {n = n} e (par₂ {u' = u'} f d) (par₁ {t' = t'} f' d') = (par t' u', par₁ (fresh-after n d (key-pos d') (λ q. e (sym q)) f') d', par₂ (fresh-after m d' (key-pos d) e f) d)
+diamond {m = m} {n = n} e (par₁ {t' = t'} f d) (par₂ {u' = u'} f' d') = (par t' u', par₂ (fresh_after n d (key_pos d') (λ q. e (sym q)) f') d', par₁ (fresh_after m d' (key_pos d) e f) d)
+diamond {m = m} e (par₁ {u = u} f d) (synch {u' = u'} c d' e') = let i = diamond e d d' in (par i.0 u', synch c i.1 e', par₁ (fresh_after m e' (key_pos d) e f) i.2)
+diamond {m = m} {n = n} e (par₂ {u' = u'} f d) (par₁ {t' = t'} f' d') = (par t' u', par₁ (fresh_after n d (key_pos d') (λ q. e (sym q)) f') d', par₂ (fresh_after m d' (key_pos d) e f) d)
 diamond e (par₂ {t = t} f d) (par₂ f' d') = let i = diamond e d d' in (par t i.0, par₂ f' i.1, par₂ f i.2)
-diamond {m = m} e (par₂ f d) (synch {t' = t'} c d' e') = let i = diamond e d e' in (par t' i.0, synch c d' i.1, par₂ (fresh-after m d' (key-pos d) e f) i.2)
-diamond {n = n} e (synch {u' = u'} c d d'') (par₁ f d') = let i = diamond e d d' in (par i.0 u', par₁ (fresh-after n d'' (key-pos d') (λ q. e (sym q)) f) i.1, synch c i.2 d'')
-diamond {n = n} e (synch {t' = t'} c d d'') (par₂ f d') = let i = diamond e d'' d' in (par t' i.0, par₂ (fresh-after n d (key-pos d') (λ q. e (sym q)) f) i.1, synch c d i.2)
+diamond {m = m} e (par₂ f d) (synch {t' = t'} c d' e') = let i = diamond e d e' in (par t' i.0, synch c d' i.1, par₂ (fresh_after m d' (key_pos d) e f) i.2)
+diamond {n = n} e (synch {u' = u'} c d d'') (par₁ f d') = let i = diamond e d d' in (par i.0 u', par₁ (fresh_after n d'' (key_pos d') (λ q. e (sym q)) f) i.1, synch c i.2 d'')
+diamond {n = n} e (synch {t' = t'} c d d'') (par₂ f d') = let i = diamond e d'' d' in (par t' i.0, par₂ (fresh_after n d (key_pos d') (λ q. e (sym q)) f) i.1, synch c d i.2)
 diamond e (synch c d d'') (synch c' d' e') = let i = diamond e d d' in let j = diamond e d'' e' in (par i.0 j.0, synch c' i.1 j.1, synch c i.2 j.2)
 diamond e (restrict {a = a} f d) (restrict f' d') = let i = diamond e d d' in (res a i.0, restrict f' i.1, restrict f i.2)

@@ -12,78 +12,78 @@ use Rattle.ccsk.specs.Numbers.{In, in?, distinct}
 use Rattle.ccsk.specs.Without.{without}
 use Rattle.ccsk.specs.Term.{Key}
 use Rattle.ccsk.proofs.Basic.{never}
-use Rattle.ccsk.proofs.Lists.{in_left, in_either, in_without, getD-in, distinct-old, distinct-new, without-shorter}
+use Rattle.ccsk.proofs.Lists.{in_left, in_either, in_without, get_or_in, distinct_old, distinct_new, without_shorter}
 use Rattle.sound.specs.Sound.{Chain, one, more}
 use Rattle.sound.proofs.Chains.{final}
-use Rattle.format.specs.Limits.{node-limit}
+use Rattle.format.specs.Limits.{node_limit}
 use Rattle.keyset.specs.Set.{member, added}
-use Rattle.keyset.proofs.Sets.{gain-few, added-same, added-other}
+use Rattle.keyset.proofs.Sets.{gain_few, added_same, added_other}
 use Rattle.keys.specs.Gather.{Holds}
 use Rattle.keys.proofs.Marks.{put_in}
-use Rattle.keys.proofs.Distinct.{snoc, snoc-last}
+use Rattle.keys.proofs.Distinct.{snoc, snoc_last}
 use Rattle.filing.specs.Cabinet.{Cabinet, Link, Filed}
 use Rattle.chains.specs.Reach.{Meets, other, asked, meets, Reached, From, Within}
 
 -- a list whose numbers all stand in another has no more different ones than that is long
-distinct-within : (l c : List ℕ) → ((k : ℕ) → In k l → In k c) → distinct l ≤ length c
+distinct_within : (l c : List ℕ) → ((k : ℕ) → In k l → In k c) → distinct l ≤ length c
 unfolding distinct
-distinct-within [] c f = omega arith
-distinct-within (a ∷ l) c f = pick (in? a l) (distinct-within l)
+distinct_within [] c f = omega arith
+distinct_within (a ∷ l) c f = pick (in? a l) (distinct_within l)
   where
     pick : Dec (In a l) → ((c : List ℕ) → ((k : ℕ) → In k l → In k c) → distinct l ≤ length c) → distinct (a ∷ l) ≤ length c
-    pick (yes i) g = rw (distinct-old a l i) (g c (λ k j. f k (inr j)))
+    pick (yes i) g = rw (distinct_old a l i) (g c (λ k j. f k (inr j)))
     pick (no n) g = omega (
       arith,
-      distinct-new a l n,
-      without-shorter a c (f a (inl refl)),
+      distinct_new a l n,
+      without_shorter a c (f a (inl refl)),
       g (without a c) (λ k j. (in_without k a c (λ e. n (subst (λ (z : ℕ). In z l) e j))).1 (f k (inr j))),
     )
 
 module _ (x : Cabinet) (F : Filed x) where
   -- a link has a number from 1 on, below the limit
-  pub link-low : (i : ℕ) → 0 < get_or x.upper i 0 → i < suc node-limit
-  link-low i p = pick (dec_lt i (suc node-limit))
+  pub link_low : (i : ℕ) → 0 < get_or x.upper i 0 → i < suc node_limit
+  link_low i p = pick (dec_lt i (suc node_limit))
     where
-      pick : Dec (i < suc node-limit) → i < suc node-limit
+      pick : Dec (i < suc node_limit) → i < suc node_limit
       pick (yes h) = h
       pick (no h) = never p (get_or-eq_default x.upper 0 (omega (arith, F.sized.upper)))
 
-  pub link-some : (i : ℕ) → 0 < get_or x.upper i 0 → 0 < i
-  link-some i p = pick (ℕ_discrete i 0)
+  pub link_some : (i : ℕ) → 0 < get_or x.upper i 0 → 0 < i
+  link_some i p = pick (ℕ_discrete i 0)
     where
       pick : Dec (i ≡ 0) → 0 < i
       pick (yes e) = never (subst (λ (j : ℕ). 0 < get_or x.upper j 0) e p) F.zero
       pick (no e) = omega arith
 
-  low-key : {m k : Key} → Link x m k → In k (drop 1 x.lower)
-  low-key {m} {k} l =
+  low_key : {m k : Key} → Link x m k → In k (drop 1 x.lower)
+  low_key {m} {k} l =
       let p : 0 < get_or x.upper l.0 0 = rw l.2 l.1 in
-      let h = link-some l.0 p in
-      rw (← l.3) (at l.0 h (link-low l.0 p))
+      let h = link_some l.0 p in
+      rw (← l.3) (at l.0 h (link_low l.0 p))
     where
-      at : (i : ℕ) → 0 < i → i < suc node-limit → In (get_or x.lower i 0) (drop 1 x.lower)
-      at i p h = subst (λ (j : ℕ). In j (drop 1 x.lower)) (place i p) (getD-in (drop 1 x.lower) (i - 1) (omega (arith, length-drop 1 x.lower, F.sized.lower)))
+      at : (i : ℕ) → 0 < i → i < suc node_limit → In (get_or x.lower i 0) (drop 1 x.lower)
+      at i p h = subst (λ (j : ℕ). In j (drop 1 x.lower)) (place i p) (get_or_in (drop 1 x.lower) (i - 1) (omega (arith, length-drop 1 x.lower, F.sized.lower)))
         where
           place : (i : ℕ) → 0 < i → get_or (drop 1 x.lower) (i - 1) 0 ≡ get_or x.lower i 0
           place i p = let e : 1 + (i - 1) ≡ i = omega arith in get_or-drop 1 x.lower (i - 1) 0 ∙ ap (λ (j : ℕ). get_or x.lower j 0) e
 
   -- the queue is never full
-  pub queue-room : {m : Key} {marks queue : List ℕ} {tail : ℕ} → Reached x m marks queue tail → tail < suc node-limit
-  queue-room R = omega (
+  pub queue_room : {m : Key} {marks queue : List ℕ} {tail : ℕ} → Reached x m marks queue tail → tail < suc node_limit
+  queue_room R = omega (
     arith,
     R.count,
     length-drop 1 x.lower,
     F.sized.lower,
-    distinct-within R.keys (drop 1 x.lower) (λ k i. low-key (final (R.led k i).1).1),
+    distinct_within R.keys (drop 1 x.lower) (λ k i. low_key (final (R.led k i).1).1),
   )
 
 -- a set with one key more holds all that it held
-within-added : (marks : List ℕ) (k : Key) → k < length marks * 8 → Within marks (added marks k)
-within-added marks k h j e = pick (ℕ_discrete j k)
+within_added : (marks : List ℕ) (k : Key) → k < length marks * 8 → Within marks (added marks k)
+within_added marks k h j e = pick (ℕ_discrete j k)
   where
     pick : Dec (j ≡ k) → member (added marks k) j ≡ true
-    pick (yes q) = rw q (added-same marks k h)
-    pick (no q) = added-other marks k j h q ∙ e
+    pick (yes q) = rw q (added_same marks k h)
+    pick (no q) = added_other marks k j h q ∙ e
 
 module _ (x : Cabinet) (m from : Key) (w : From x m from) (u k : Key) (small : k < 65536) (i : ℕ) (p : 0 < get_or x.upper i 0) (e : u ≡ get_or x.upper i 0) (f : k ≡ get_or x.lower i 0) where
   -- what one look at a link does: the same queue in front, at least as many keys, and the link is done with
@@ -114,10 +114,10 @@ module _ (x : Cabinet) (m from : Key) (w : From x m from) (u k : Key) (small : k
       queued = λ j h. queued j h (dec_lt j tail);
       sized = rw length-set R.sized;
     };
-    grown = rw A.result (within-added marks k room);
+    grown = rw A.result (within_added marks k room);
     kept = λ j h. get_or-set_other queue tail j k 0 (λ y. omega arith);
     longer = omega arith;
-    done = λ y. inr (rw A.result (added-same marks k room));
+    done = λ y. inr (rw A.result (added_same marks k room));
   }
     where
       room : k < length marks * 8
@@ -136,4 +136,4 @@ module _ (x : Cabinet) (m from : Key) (w : From x m from) (u k : Key) (small : k
 
       queued : (j : ℕ) → j < tail + n → Dec (j < tail) → In (get_or (set queue tail k) j 0) (snoc R.keys k)
       queued j h (yes v) = rw (get_or-set_other queue tail j k 0 (λ y. omega (arith, v))) (in_left _ R.keys (k ∷ []) (R.queued j v))
-      queued j h (no y) = let v : j ≡ tail = omega (arith, gain-few A) in rw (v, get_or-set_same queue tail k 0 g) (snoc-last k R.keys)
+      queued j h (no y) = let v : j ≡ tail = omega (arith, gain_few A) in rw (v, get_or-set_same queue tail k 0 g) (snoc_last k R.keys)

@@ -11,15 +11,15 @@ use Rattle.ccsk.specs.Numbers.{distinct}
 use Rattle.ccsk.specs.Term.{Key}
 use Rattle.sound.specs.Sound.{Chain, one, more}
 use Rattle.sound.proofs.Chains.{final}
-use Rattle.format.specs.Limits.{node-limit}
+use Rattle.format.specs.Limits.{node_limit}
 use Rattle.keyset.specs.Set.{member}
 use Rattle.keys.specs.Gather.{Holds}
 use Rattle.filing.specs.Cabinet.{Cabinet, Link}
 use Rattle.chains.specs.Reach.{Reached, From, Followed, Follows, Closed}
 
-pub none-reached : (x : Cabinet) (m : Key) (marks queue : List ℕ) → Holds marks [] → length queue ≡ suc node-limit → Reached x m marks queue 0
+pub none_reached : (x : Cabinet) (m : Key) (marks queue : List ℕ) → Holds marks [] → length queue ≡ suc node_limit → Reached x m marks queue 0
 unfolding distinct
-none-reached x m marks queue H e = record {
+none_reached x m marks queue H e = record {
   keys = [];
   holds = H;
   count = refl;
@@ -41,11 +41,11 @@ first_round F = record { reached = F.reached; asked = F.followed; first = λ i h
 
 module _ {x : Cabinet} {m : Key} {marks queue : List ℕ} {head tail : ℕ} (R : Round x m marks queue head tail) where
   -- the next key was reached
-  pub next-from : head < tail → From x m (get_or queue head 0)
-  next-from h = inr (R.reached.led _ (R.reached.queued head h)).1
+  pub next_from : head < tail → From x m (get_or queue head 0)
+  next_from h = inr (R.reached.led _ (R.reached.queued head h)).1
 
-  pub next-round : {marks' queue' : List ℕ} {r : ℕ} → head < tail → Follows x m (get_or queue head 0) marks queue tail marks' queue' r → Round x m marks' queue' (head + 1) r
-  next-round {marks'} {queue'} h F = record {
+  pub next_round : {marks' queue' : List ℕ} {r : ℕ} → head < tail → Follows x m (get_or queue head 0) marks queue tail marks' queue' r → Round x m marks' queue' (head + 1) r
+  next_round {marks'} {queue'} h F = record {
     reached = F.reached;
     asked = λ n l. ⊎_elim inl (λ z. inr (F.grown n z)) (R.asked n l);
     first = λ i g. pick i g (ℕ_discrete i head);
@@ -61,13 +61,13 @@ module _ {x : Cabinet} {m : Key} {marks queue : List ℕ} {head tail : ℕ} (R :
   closed h small = record {
     keys = R.reached.keys;
     holds = R.reached.holds;
-    small = λ k i. end-small (R.reached.led k i).1;
+    small = λ k i. end_small (R.reached.led k i).1;
     count = R.reached.count;
-    exact = λ k. (R.reached.led k, λ w. ⊎_elim (λ e. absurd (w.0 e)) (λ z. (R.reached.holds.exact k (end-small w.1)).0 z) (all w.1));
+    exact = λ k. (R.reached.led k, λ w. ⊎_elim (λ e. absurd (w.0 e)) (λ z. (R.reached.holds.exact k (end_small w.1)).0 z) (all w.1));
   }
     where
-      end-small : {j k : Key} → Chain (Link x) j k → k < 65536
-      end-small c = let l = (final c).1 in rw (← l.3) (small l.0)
+      end_small : {j k : Key} → Chain (Link x) j k → k < 65536
+      end_small c = let l = (final c).1 in rw (← l.3) (small l.0)
 
       on : (j k : Key) → (j ≡ m) ⊎ (member marks j ≡ true) → j < 65536 → Link x j k → (k ≡ m) ⊎ (member marks k ≡ true)
       on j k (inl e) s l = R.asked k (rw e at l)
@@ -75,4 +75,4 @@ module _ {x : Cabinet} {m : Key} {marks queue : List ℕ} {head tail : ℕ} (R :
 
       all : {k : Key} → Chain (Link x) m k → (k ≡ m) ⊎ (member marks k ≡ true)
       all (one {n = k} b) = R.asked k b
-      all (more {k = j} {n = k} c b) = on j k (all c) (end-small c) b
+      all (more {k = j} {n = k} c b) = on j k (all c) (end_small c) b

@@ -3,7 +3,7 @@ use Rattle.std.specs.Prelude.{◌≡◌, ◌⊎◌, ◌≢◌, ◌↔◌, List, 
 use Rattle.ccsk.specs.Numbers.{In, distinct}
 use Rattle.ccsk.specs.Term.{Key}
 use Rattle.sound.specs.Sound.{Chain}
-use Rattle.format.specs.Limits.{node-limit}
+use Rattle.format.specs.Limits.{node_limit}
 use Rattle.keyset.specs.Set.{member, Added}
 use Rattle.keys.specs.Gather.{Holds}
 use Rattle.filing.specs.Cabinet.{Cabinet, Link}
@@ -27,7 +27,7 @@ pub record Reached (x : Cabinet) (m : Key) (marks queue : List ℕ) (tail : ℕ)
   pub led : (k : Key) → In k keys → LeadsTo x m k
   pub found : (k : Key) → In k keys → (i : ℕ) × (i < tail) × (get_or queue i 0 ≡ k)
   pub queued : (i : ℕ) → i < tail → In (get_or queue i 0) keys
-  pub sized : length queue ≡ suc node-limit
+  pub sized : length queue ≡ suc node_limit
 
 -- m itself, or a key that a chain leads to from m
 abbrev pub From : Cabinet → Key → Key → Type 0

@@ -1,7 +1,7 @@
 // The keys that a chain of links leads to from a key. Each key that is reached waits in a queue for its own links to be followed, so that
 // none is followed twice. Helpers between crates, with what each asks of its caller.
 ghost use Rattle.std.specs.Prelude.{◌≡◌, [], suc, ◌<◌, length};
-ghost use Rattle.format.specs.Limits.{node-limit};
+ghost use Rattle.format.specs.Limits.{node_limit};
 ghost use Rattle.keys.specs.Gather.{Holds};
 ghost use Rattle.filing.specs.Cabinet.{cabinet, Filed};
 ghost use Rattle.chains.specs.Reach.{Meets, Reached, From, Follows, Closed};
@@ -21,7 +21,7 @@ fn meet(
     queue: &mut [u16],
     tail: usize,
 ) -> usize
-    requires { (length marks.old ≡ 8192) × (tail < length queue.old) × (length queue.old ≡ suc node-limit) }
+    requires { (length marks.old ≡ 8192) × (tail < length queue.old) × (length queue.old ≡ suc node_limit) }
     ensures { Meets upper lower from asked marks.old queue.old tail marks.new queue.new result }
 {
     if upper != from {
@@ -74,7 +74,7 @@ pub fn reach(
 ) -> usize
     requires filed { Filed (cabinet upper.now lower.now older.now latest.now) }
     requires holds { Holds marks.old [] }
-    requires queue_len { length queue.old ≡ suc node-limit }
+    requires queue_len { length queue.old ≡ suc node_limit }
     ensures { Closed (cabinet upper.now lower.now older.now latest.now) asked marks.new result }
 {
     let mut tail = follow(asked, asked, upper, lower, older, latest, marks, queue, 0);

@@ -17,9 +17,9 @@ use Rattle.reader.specs.declared.Head.TheVariants.{Refused}
 use Rattle.reader.specs.declared.Head.TheVariants as head
 use Rattle.cursor.specs.declared.Cursor.{Cursor}
 use Rattle.cursor.specs.declared.Shown.TheVariants as answer
-use Rattle.cursor.specs.Ahead.{Due, none, due, count, bytes_of, nodesOf, depthsOf, Ahead}
+use Rattle.cursor.specs.Ahead.{Due, none, due, count, bytes_of, nodes_of, depths_of, Ahead}
 use Rattle.cursor.specs.At.{CursorAt, Opens, Shows, Goes, Idle, Ready, DueAt, Made}
-use Rattle.cursor.proofs.Steps.{preorder-length, nothing-ahead, something-ahead, ahead-inside, ahead-few, ahead-good, ahead-some, ahead-shown, ahead-deep, ahead-room, after-leaf, after_one, after_two}
+use Rattle.cursor.proofs.Steps.{preorder-length, nothing_ahead, something_ahead, ahead_inside, ahead_few, ahead_good, ahead_some, ahead_shown, ahead_deep, ahead_room, after_leaf, after_one, after_two}
 
 module _ (s : List ℕ) (c : Cursor) where
   -- what is due at a cursor that has something due
@@ -27,82 +27,82 @@ module _ (s : List ℕ) (c : Cursor) where
   Next t n = (d : ℕ) × (u : Term) × (w : Due) × Ahead s c.at c.due c.many (drop n (preorder 1 t)) (due d u w)
 
   -- nothing is due
-  pub idle-empty : c.many ≡ 0 → Idle s c
-  idle-empty z t n C = omega (
+  pub idle_empty : c.many ≡ 0 → Idle s c
+  idle_empty z t n C = omega (
     arith,
     preorder-length 1 t,
     length-drop n (preorder 1 t),
-    ap length (nothing-ahead s c.at c.due c.many (drop n (preorder 1 t)) C.waiting C.ahead z),
+    ap length (nothing_ahead s c.at c.due c.many (drop n (preorder 1 t)) C.waiting C.ahead z),
   )
 
-  pub shows-idle : Idle s c → Shows s c answer.Nothing
-  shows-idle idle = record {
+  pub shows_idle : Idle s c → Shows s c answer.Nothing
+  shows_idle idle = record {
     node = λ t n C. let e : length (preorder 1 t) ≤ n = omega (arith, preorder-length 1 t, idle t n C) in rw (drop_of_length-le (preorder 1 t) e);
     refused = λ k b. refl;
   }
 
-  pub goes-idle : Idle s c → Goes s c c
-  goes-idle idle = record {
+  pub goes_idle : Idle s c → Goes s c c
+  goes_idle idle = record {
     on = λ t n C h. absurd (omega (arith, idle t n C));
     stays = λ t n C h. refl;
     refused = λ k b. refl;
   }
 
   module _ (z : c.many ≡ 0 → ⊥) where
-    next-due : (t : Term) (n : ℕ) → CursorAt s t n c → Next t n
+    next_due : (t : Term) (n : ℕ) → CursorAt s t n c → Next t n
     unfolding Next
-    next-due t n C = something-ahead s c.at c.due c.many (drop n (preorder 1 t)) C.waiting C.ahead z
+    next_due t n C = something_ahead s c.at c.due c.many (drop n (preorder 1 t)) C.waiting C.ahead z
 
     not_last : (t : Term) (n : ℕ) → CursorAt s t n c → size t ≤ n → ⊥
     unfolding Next
-    not_last t n C h = let x = next-due t n C in let e : length (preorder 1 t) ≤ n = omega (arith, preorder-length 1 t) in
-        ahead-some s c.at c.due c.many (drop n (preorder 1 t)) x.0 x.1 x.2 x.3 (drop_of_length-le (preorder 1 t) e)
+    not_last t n C h = let x = next_due t n C in let e : length (preorder 1 t) ≤ n = omega (arith, preorder-length 1 t) in
+        ahead_some s c.at c.due c.many (drop n (preorder 1 t)) x.0 x.1 x.2 x.3 (drop_of_length-le (preorder 1 t) e)
 
     -- a cursor with something due that stands at no node
-    pub idle-many : 256 < c.many → Idle s c
+    pub idle_many : 256 < c.many → Idle s c
     unfolding Next
-    idle-many h t n C = let x = next-due t n C in absurd (omega (arith, ahead-few s c.at c.due c.many (drop n (preorder 1 t)) x.0 x.1 x.2 x.3))
+    idle_many h t n C = let x = next_due t n C in absurd (omega (arith, ahead_few s c.at c.due c.many (drop n (preorder 1 t)) x.0 x.1 x.2 x.3))
 
-    pub idle-outside : length s ≤ c.at → Idle s c
+    pub idle_outside : length s ≤ c.at → Idle s c
     unfolding Next
-    idle-outside h t n C = let x = next-due t n C in absurd (omega (arith, ahead-inside s c.at c.due c.many (drop n (preorder 1 t)) x.0 x.1 x.2 x.3))
+    idle_outside h t n C = let x = next_due t n C in absurd (omega (arith, ahead_inside s c.at c.due c.many (drop n (preorder 1 t)) x.0 x.1 x.2 x.3))
 
-    idle-bad : NoNodeAt s c.at → Idle s c
+    idle_bad : NoNodeAt s c.at → Idle s c
     unfolding Next
-    idle-bad h t n C = let x = next-due t n C in absurd (ahead-good s c.at c.due c.many (drop n (preorder 1 t)) x.0 x.1 x.2 x.3 h)
+    idle_bad h t n C = let x = next_due t n C in absurd (ahead_good s c.at c.due c.many (drop n (preorder 1 t)) x.0 x.1 x.2 x.3 h)
 
     -- the answer of `node_at` is that of `due_at`, where no test failed
-    pub due-head : (h : Head) → c.many ≤ 256 → c.node.0 < 4096 → Headed s c.at h → DueAt s c h
-    due-head (Refused r) m n H = idle-bad H.1
-    due-head (head.Node kind children next) m n H = record { head = H; some = omega arith; few = m; number = n }
+    pub due_head : (h : Head) → c.many ≤ 256 → c.node.0 < 4096 → Headed s c.at h → DueAt s c h
+    due_head (Refused r) m n H = idle_bad H.1
+    due_head (head.Node kind children next) m n H = record { head = H; some = omega arith; few = m; number = n }
 
   -- the answer of `due_at`, once its case is known
   module _ (h : Head) (D : DueAt s c h) where
-    pub due-idle : (r : ℕ) → h ≡ Refused r → Idle s c
-    due-idle r e = subst (DueAt s c) e D
+    pub due_idle : (r : ℕ) → h ≡ Refused r → Idle s c
+    due_idle r e = subst (DueAt s c) e D
 
-    pub due-ready : (kind children next : ℕ) → h ≡ head.Node kind children next → Ready s c kind children next
-    due-ready kind children next e = subst (DueAt s c) e D
+    pub due_ready : (kind children next : ℕ) → h ≡ head.Node kind children next → Ready s c kind children next
+    due_ready kind children next e = subst (DueAt s c) e D
 
   module _ (kind children next : ℕ) (R : Ready s c kind children next) where
     full : c.many ≡ 0 → ⊥
     full e = omega (arith, R.some)
 
-    pub idle-deep : (children ≡ 0 → ⊥) → 256 ≤ get_or c.due (c.many - 1) 0 → Idle s c
+    pub idle_deep : (children ≡ 0 → ⊥) → 256 ≤ get_or c.due (c.many - 1) 0 → Idle s c
     unfolding Next
-    idle-deep a h t n C = let x = next-due full t n C in
-        absurd (omega (arith, ahead-deep s c.at c.due c.many (drop n (preorder 1 t)) x.0 x.1 x.2 x.3 kind children next R.head a))
+    idle_deep a h t n C = let x = next_due full t n C in
+        absurd (omega (arith, ahead_deep s c.at c.due c.many (drop n (preorder 1 t)) x.0 x.1 x.2 x.3 kind children next R.head a))
 
-    pub idle-full : (children ≡ 0 → ⊥) → 256 ≤ c.many → Idle s c
+    pub idle_full : (children ≡ 0 → ⊥) → 256 ≤ c.many → Idle s c
     unfolding Next
-    idle-full a h t n C = let x = next-due full t n C in
-        absurd (omega (arith, ahead-room s c.at c.due c.many (drop n (preorder 1 t)) x.0 x.1 x.2 x.3 kind children next R.head a))
+    idle_full a h t n C = let x = next_due full t n C in
+        absurd (omega (arith, ahead_room s c.at c.due c.many (drop n (preorder 1 t)) x.0 x.1 x.2 x.3 kind children next R.head a))
 
-    pub shows-node : Shows s c (answer.Node kind (c.at + 1) (next - (c.at + 1)) (get_or c.due (c.many - 1) 0))
+    pub shows_node : Shows s c (answer.Node kind (c.at + 1) (next - (c.at + 1)) (get_or c.due (c.many - 1) 0))
     unfolding Next
-    shows-node = record {
-      node = λ t n C. let x = next-due full t n C in
-          sym (ahead-shown s c.at c.due c.many (drop n (preorder 1 t)) x.0 x.1 x.2 x.3 kind children next R.head);
+    shows_node = record {
+      node = λ t n C. let x = next_due full t n C in
+          sym (ahead_shown s c.at c.due c.many (drop n (preorder 1 t)) x.0 x.1 x.2 x.3 kind children next R.head);
       refused = λ k b. absurd (full b.none);
     }
 
@@ -123,29 +123,29 @@ module _ (s : List ℕ) (c : Cursor) where
       refused = λ k b. absurd (full b.none);
     }
 
-    pub moves-leaf : (r : Cursor) → children ≡ 0 → Made next (c.node.0 + 1) c.due (c.many - 1) r → Goes s c r
+    pub moves_leaf : (r : Cursor) → children ≡ 0 → Made next (c.node.0 + 1) c.due (c.many - 1) r → Goes s c r
     unfolding Next
-    moves-leaf r q M = moved r c.due (c.many - 1) M
-        (λ t n C. let x = next-due full t n C in (_, after-leaf s c.at c.due c.many (drop n (preorder 1 t)) x.0 x.1 x.2 x.3 kind children next R.head q))
+    moves_leaf r q M = moved r c.due (c.many - 1) M
+        (λ t n C. let x = next_due full t n C in (_, after_leaf s c.at c.due c.many (drop n (preorder 1 t)) x.0 x.1 x.2 x.3 kind children next R.head q))
 
     abbrev deeper : ℕ
     deeper = get_or c.due (c.many - 1) 0 + 1
 
-    pub moves-one : (r : Cursor) → children ≡ 1 → Made next (c.node.0 + 1) (set c.due (c.many - 1) deeper) c.many r → Goes s c r
+    pub moves_one : (r : Cursor) → children ≡ 1 → Made next (c.node.0 + 1) (set c.due (c.many - 1) deeper) c.many r → Goes s c r
     unfolding Next
-    moves-one r q M = moved r (set c.due (c.many - 1) deeper) c.many M
-        (λ t n C. let x = next-due full t n C in (_, after_one s c.at c.due c.many (drop n (preorder 1 t)) x.0 x.1 x.2 x.3 kind children next R.head q))
+    moves_one r q M = moved r (set c.due (c.many - 1) deeper) c.many M
+        (λ t n C. let x = next_due full t n C in (_, after_one s c.at c.due c.many (drop n (preorder 1 t)) x.0 x.1 x.2 x.3 kind children next R.head q))
 
-    pub moves-two : (r : Cursor) → (children ≡ 0 → ⊥) → (children ≡ 1 → ⊥)
+    pub moves_two : (r : Cursor) → (children ≡ 0 → ⊥) → (children ≡ 1 → ⊥)
         → Made next (c.node.0 + 1) (set (set c.due (c.many - 1) deeper) c.many deeper) (c.many + 1) r → Goes s c r
     unfolding Next
-    moves-two r a b M = moved r (set (set c.due (c.many - 1) deeper) c.many deeper) (c.many + 1) M
-        (λ t n C. let x = next-due full t n C in (_, after_two s c.at c.due c.many (drop n (preorder 1 t)) x.0 x.1 x.2 x.3 kind children next R.head a b))
+    moves_two r a b M = moved r (set (set c.due (c.many - 1) deeper) c.many deeper) (c.many + 1) M
+        (λ t n C. let x = next_due full t n C in (_, after_two s c.at c.due c.many (drop n (preorder 1 t)) x.0 x.1 x.2 x.3 kind children next R.head a b))
 
 -- opening: the root is due, at depth 1
-pub opens-standing : (s : List ℕ) (t : Term) (depths : List ℕ) (c : Cursor) → Bytes s → Reads s t → get_or depths 0 0 ≡ 1 → length depths ≡ 256 → Made 0 0 depths 1 c → Opens s c
-unfolding bytes_of nodesOf depthsOf count
-opens-standing s t depths c B e h l M = let x = encode-decode s t B e in Opens.standing {t = t} (record {
+pub opens_standing : (s : List ℕ) (t : Term) (depths : List ℕ) (c : Cursor) → Bytes s → Reads s t → get_or depths 0 0 ≡ 1 → length depths ≡ 256 → Made 0 0 depths 1 c → Opens s c
+unfolding bytes_of nodes_of depths_of count
+opens_standing s t depths c B e h l M = let x = encode-decode s t B e in Opens.standing {t = t} (record {
   reads = e;
   limit = x.1.nodes;
   within = omega arith;
@@ -161,5 +161,5 @@ opens-standing s t depths c B e h l M = let x = encode-decode s t B e in Opens.s
   });
 })
 
-pub opens-refused : (s : List ℕ) (k : ℕ) (c : Cursor) → Refuses s k → c.refusal ≡ k → c.many ≡ 0 → Opens s c
-opens-refused s k c e h z = Opens.refused e (record { number = h; none = z })
+pub opens_refused : (s : List ℕ) (k : ℕ) (c : Cursor) → Refuses s k → c.refusal ≡ k → c.many ≡ 0 → Opens s c
+opens_refused s k c e h z = Opens.refused e (record { number = h; none = z })

@@ -2,7 +2,7 @@
 -- Of a cursor that was made in any other way, or for other bytes, only this is promised: nothing is read out of range.
 use Rattle.std.specs.Prelude.{◌≡◌, List, [], ◌∷◌, ℕ, suc, ◌≤◌, ◌<◌, take, drop}
 use Rattle.ccsk.specs.Term.{Term, size}
-use Rattle.format.specs.Limits.{node-limit, depth-limit}
+use Rattle.format.specs.Limits.{node_limit, depth_limit}
 use Rattle.format.specs.Read.{Reads, Refuses}
 use Rattle.format.specs.Preorder as term
 use Rattle.reader.specs.Head.{NodeAt}
@@ -17,7 +17,7 @@ use Rattle.cursor.specs.Ahead.{Due, Ahead}
 -- The cursor stands at node n of the record s of the term t; at n = size t it is past the last.
 pub record CursorAt (s : List ℕ) (t : Term) (n : ℕ) (c : Cursor) : Type 0 where
   pub reads : Reads s t
-  pub limit : size t ≤ node-limit
+  pub limit : size t ≤ node_limit
   pub within : n ≤ size t
   pub fine : c.refusal ≡ 0
   pub number : c.node.0 ≡ n
@@ -58,8 +58,8 @@ Idle s c = (t : Term) (n : ℕ) → CursorAt s t n c → size t ≤ n
 pub record Ready (s : List ℕ) (c : Cursor) (kind children next : ℕ) : Type 0 where
   pub head : NodeAt s c.at kind children next
   pub some : 0 < c.many
-  pub few : c.many ≤ depth-limit
-  pub number : c.node.0 < node-limit
+  pub few : c.many ≤ depth_limit
+  pub number : c.node.0 < node_limit
 
 -- what `due_at` answers
 abbrev pub DueAt : List ℕ → Cursor → Head → Type 0

@@ -8,80 +8,80 @@ use native.Mathlib.Omega.{arith}
 use lib.ListN.{length, get_or, set}
 use lib.Seq.{get_or-set_same, get_or-set_other}
 use Rattle.ccsk.specs.Numbers.{In}
-use Rattle.causes.specs.Links.{one-when}
-use Rattle.causes.proofs.Taking.{when-yes, when-no}
+use Rattle.causes.specs.Links.{one_when}
+use Rattle.causes.proofs.Taking.{when_yes, when_no}
 use Rattle.cycles.specs.Queue.{taken, zeros, Distinct, Queued}
 
-pub zeros-yes : (j : ℕ) (c : List ℕ) → get_or c j 0 ≡ 0 → zeros (suc j) c ≡ suc (zeros j c)
+pub zeros_yes : (j : ℕ) (c : List ℕ) → get_or c j 0 ≡ 0 → zeros (suc j) c ≡ suc (zeros j c)
 unfolding zeros
-zeros-yes j c e = when-yes (ℕ_discrete (get_or c j 0) 0) (zeros j c) e
+zeros_yes j c e = when_yes (ℕ_discrete (get_or c j 0) 0) (zeros j c) e
 
-pub zeros-no : (j : ℕ) (c : List ℕ) → get_or c j 0 ≢ 0 → zeros (suc j) c ≡ zeros j c
+pub zeros_no : (j : ℕ) (c : List ℕ) → get_or c j 0 ≢ 0 → zeros (suc j) c ≡ zeros j c
 unfolding zeros
-zeros-no j c e = when-no (ℕ_discrete (get_or c j 0) 0) (zeros j c) e
+zeros_no j c e = when_no (ℕ_discrete (get_or c j 0) 0) (zeros j c) e
 
 -- at most as many as there are
-pub zeros-le : (j : ℕ) (c : List ℕ) → zeros j c ≤ j
+pub zeros_le : (j : ℕ) (c : List ℕ) → zeros j c ≤ j
 unfolding zeros
-zeros-le zero c = omega arith
-zeros-le (suc j) c = pick (ℕ_discrete (get_or c j 0) 0) (zeros-le j c)
+zeros_le zero c = omega arith
+zeros_le (suc j) c = pick (ℕ_discrete (get_or c j 0) 0) (zeros_le j c)
   where
-    pick : (d : Dec (get_or c j 0 ≡ 0)) → zeros j c ≤ j → one-when d (zeros j c) ≤ suc j
+    pick : (d : Dec (get_or c j 0 ≡ 0)) → zeros j c ≤ j → one_when d (zeros j c) ≤ suc j
     pick (yes d) h = omega arith
     pick (no d) h = omega arith
 
 -- fewer, if one of them is not 0
-pub zeros-less : (j : ℕ) (c : List ℕ) (u : ℕ) → u < j → get_or c u 0 ≢ 0 → zeros j c < j
-zeros-less zero c u h f = absurd (omega arith)
-zeros-less (suc j) c u h f = pick (ℕ_discrete u j) (zeros-less j c u)
+pub zeros_less : (j : ℕ) (c : List ℕ) (u : ℕ) → u < j → get_or c u 0 ≢ 0 → zeros j c < j
+zeros_less zero c u h f = absurd (omega arith)
+zeros_less (suc j) c u h f = pick (ℕ_discrete u j) (zeros_less j c u)
   where
     pick : Dec (u ≡ j) → (u < j → get_or c u 0 ≢ 0 → zeros j c < j) → zeros (suc j) c < suc j
-    pick (yes e) g = let z = zeros-no j c (rw e at f) in let y = zeros-le j c in omega arith
+    pick (yes e) g = let z = zeros_no j c (rw e at f) in let y = zeros_le j c in omega arith
     pick (no e) g = let z = g (omega arith) f in more (ℕ_discrete (get_or c j 0) 0)
       where
         more : Dec (get_or c j 0 ≡ 0) → zeros (suc j) c < suc j
-        more (yes d) = let y = zeros-yes j c d in let z = g (omega arith) f in omega arith
-        more (no d) = let y = zeros-no j c d in let z = g (omega arith) f in omega arith
+        more (yes d) = let y = zeros_yes j c d in let z = g (omega arith) f in omega arith
+        more (no d) = let y = zeros_no j c d in let z = g (omega arith) f in omega arith
 
 -- and if there are fewer, one of them is not 0
-pub zeros-find : (j : ℕ) (c : List ℕ) → zeros j c < j → (k : ℕ) × (k < j) × (get_or c k 0 ≢ 0)
-zeros-find zero c h = absurd (omega arith)
-zeros-find (suc j) c h = pick (ℕ_discrete (get_or c j 0) 0) (zeros-find j c)
+pub zeros_find : (j : ℕ) (c : List ℕ) → zeros j c < j → (k : ℕ) × (k < j) × (get_or c k 0 ≢ 0)
+zeros_find zero c h = absurd (omega arith)
+zeros_find (suc j) c h = pick (ℕ_discrete (get_or c j 0) 0) (zeros_find j c)
   where
     pick : Dec (get_or c j 0 ≡ 0) → (zeros j c < j → (k : ℕ) × (k < j) × (get_or c k 0 ≢ 0)) → (k : ℕ) × (k < suc j) × (get_or c k 0 ≢ 0)
-    pick (yes e) f = let r = f (let z = zeros-yes j c e in omega arith) in (r.0, omega arith, r.2)
+    pick (yes e) f = let r = f (let z = zeros_yes j c e in omega arith) in (r.0, omega arith, r.2)
     pick (no e) f = (j, omega arith, e)
 
 -- a counter outside is not looked at
-pub zeros-outside : (j : ℕ) (c : List ℕ) (u v : ℕ) → j ≤ u → zeros j (set c u v) ≡ zeros j c
+pub zeros_outside : (j : ℕ) (c : List ℕ) (u v : ℕ) → j ≤ u → zeros j (set c u v) ≡ zeros j c
 unfolding zeros
-zeros-outside zero c u v h = refl
-zeros-outside (suc j) c u v h = rw (get_or-set_other c u j v 0 (λ e. omega arith), zeros-outside j c u v (omega arith))
+zeros_outside zero c u v h = refl
+zeros_outside (suc j) c u v h = rw (get_or-set_other c u j v 0 (λ e. omega arith), zeros_outside j c u v (omega arith))
 
 -- a counter that falls to 0 is one more
-pub zeros-fall : (j : ℕ) (c : List ℕ) (u : ℕ) → u < j → u < length c → get_or c u 0 ≢ 0 → zeros j (set c u 0) ≡ suc (zeros j c)
-zeros-fall zero c u h l f = absurd (omega arith)
-zeros-fall (suc j) c u h l f = pick (ℕ_discrete u j) (ℕ_discrete (get_or c j 0) 0) (zeros-fall j c u)
+pub zeros_fall : (j : ℕ) (c : List ℕ) (u : ℕ) → u < j → u < length c → get_or c u 0 ≢ 0 → zeros j (set c u 0) ≡ suc (zeros j c)
+zeros_fall zero c u h l f = absurd (omega arith)
+zeros_fall (suc j) c u h l f = pick (ℕ_discrete u j) (ℕ_discrete (get_or c j 0) 0) (zeros_fall j c u)
   where
     pick : Dec (u ≡ j) → Dec (get_or c j 0 ≡ 0) → (u < j → u < length c → get_or c u 0 ≢ 0 → zeros j (set c u 0) ≡ suc (zeros j c)) → zeros (suc j) (set c u 0) ≡ suc (zeros (suc j) c)
-    pick (yes e) d g = let y = zeros-no j c (rw e at f) in let z = zeros-outside j c u 0 (omega arith) in
-        let w = zeros-yes j (set c u 0) (ap (λ (x : ℕ). get_or (set c u 0) x 0) (sym e) ∙ get_or-set_same c u 0 0 l) in omega arith
-    pick (no e) (yes d) g = let y = zeros-yes j c d in let w = zeros-yes j (set c u 0) (get_or-set_other c u j 0 0 (λ z. e (sym z)) ∙ d) in let z = g (omega arith) l f in omega arith
-    pick (no e) (no d) g = let y = zeros-no j c d in let w = zeros-no j (set c u 0) (λ z. d (sym (get_or-set_other c u j 0 0 (λ z. e (sym z))) ∙ z)) in let z = g (omega arith) l f in omega arith
+    pick (yes e) d g = let y = zeros_no j c (rw e at f) in let z = zeros_outside j c u 0 (omega arith) in
+        let w = zeros_yes j (set c u 0) (ap (λ (x : ℕ). get_or (set c u 0) x 0) (sym e) ∙ get_or-set_same c u 0 0 l) in omega arith
+    pick (no e) (yes d) g = let y = zeros_yes j c d in let w = zeros_yes j (set c u 0) (get_or-set_other c u j 0 0 (λ z. e (sym z)) ∙ d) in let z = g (omega arith) l f in omega arith
+    pick (no e) (no d) g = let y = zeros_no j c d in let w = zeros_no j (set c u 0) (λ z. d (sym (get_or-set_other c u j 0 0 (λ z. e (sym z))) ∙ z)) in let z = g (omega arith) l f in omega arith
 
 -- a counter that stays above 0 changes nothing
-pub zeros-stay : (j : ℕ) (c : List ℕ) (u v : ℕ) → u < length c → get_or c u 0 ≢ 0 → 0 < v → zeros j (set c u v) ≡ zeros j c
+pub zeros_stay : (j : ℕ) (c : List ℕ) (u v : ℕ) → u < length c → get_or c u 0 ≢ 0 → 0 < v → zeros j (set c u v) ≡ zeros j c
 unfolding zeros
-zeros-stay zero c u v l f p = refl
-zeros-stay (suc j) c u v l f p = pick (ℕ_discrete u j) (ℕ_discrete (get_or c j 0) 0) (zeros-stay j c u v l f p)
+zeros_stay zero c u v l f p = refl
+zeros_stay (suc j) c u v l f p = pick (ℕ_discrete u j) (ℕ_discrete (get_or c j 0) 0) (zeros_stay j c u v l f p)
   where
     pick : Dec (u ≡ j) → Dec (get_or c j 0 ≡ 0) → zeros j (set c u v) ≡ zeros j c → zeros (suc j) (set c u v) ≡ zeros (suc j) c
-    pick (yes e) d g = let y = zeros-no j c (rw e at f) in let w = zeros-no j (set c u v) (λ z. positive (sym (ap (λ (x : ℕ). get_or (set c u v) x 0) (sym e) ∙ get_or-set_same c u v 0 l) ∙ z)) in omega arith
+    pick (yes e) d g = let y = zeros_no j c (rw e at f) in let w = zeros_no j (set c u v) (λ z. positive (sym (ap (λ (x : ℕ). get_or (set c u v) x 0) (sym e) ∙ get_or-set_same c u v 0 l) ∙ z)) in omega arith
       where
         positive : v ≡ 0 → ⊥
         positive q = omega arith
-    pick (no e) (yes d) g = let y = zeros-yes j c d in let w = zeros-yes j (set c u v) (get_or-set_other c u j v 0 (λ z. e (sym z)) ∙ d) in omega arith
-    pick (no e) (no d) g = let y = zeros-no j c d in let w = zeros-no j (set c u v) (λ z. d (sym (get_or-set_other c u j v 0 (λ z. e (sym z))) ∙ z)) in omega arith
+    pick (no e) (yes d) g = let y = zeros_yes j c d in let w = zeros_yes j (set c u v) (get_or-set_other c u j v 0 (λ z. e (sym z)) ∙ d) in omega arith
+    pick (no e) (no d) g = let y = zeros_no j c d in let w = zeros_no j (set c u v) (λ z. d (sym (get_or-set_other c u j v 0 (λ z. e (sym z))) ∙ z)) in omega arith
 
 -- what comes at the end of a queue does not change its front
 pub taken-set : (q : List ℕ) (t v h : ℕ) → h ≤ t → taken (set q t v) h ≡ taken q h
@@ -89,9 +89,9 @@ unfolding taken
 taken-set q t v zero h = refl
 taken-set q t v (suc k) h = rw (get_or-set_other q t k v 0 (λ e. omega arith), taken-set q t v k (omega arith))
 
-pub taken-push : (q : List ℕ) (t v : ℕ) → t < length q → taken (set q t v) (suc t) ≡ v ∷ taken q t
+pub taken_push : (q : List ℕ) (t v : ℕ) → t < length q → taken (set q t v) (suc t) ≡ v ∷ taken q t
 unfolding taken
-taken-push q t v h = rw (get_or-set_same q t v 0 h, taken-set q t v t (omega arith))
+taken_push q t v h = rw (get_or-set_same q t v 0 h, taken-set q t v t (omega arith))
 
 pub in_taken : (q : List ℕ) (t i : ℕ) → i < t → In (get_or q i 0) (taken q t)
 unfolding taken
@@ -103,23 +103,23 @@ in_taken q (suc t) i h = pick (ℕ_discrete i t) (in_taken q t i)
     pick (no e) f = inr (f (omega arith))
 
 -- the next number is none of those before it
-pub next-new : (q : List ℕ) (t h : ℕ) → h < t → Distinct (taken q t) → ¬ In (get_or q h 0) (taken q h)
+pub next_new : (q : List ℕ) (t h : ℕ) → h < t → Distinct (taken q t) → ¬ In (get_or q h 0) (taken q h)
 unfolding taken
-next-new q zero h p d = absurd (omega arith)
-next-new q (suc t) h p d = pick (ℕ_discrete h t) (next-new q t h)
+next_new q zero h p d = absurd (omega arith)
+next_new q (suc t) h p d = pick (ℕ_discrete h t) (next_new q t h)
   where
     pick : Dec (h ≡ t) → (h < t → Distinct (taken q t) → ¬ In (get_or q h 0) (taken q h)) → ¬ In (get_or q h 0) (taken q h)
     pick (yes e) f = rw e d.0
     pick (no e) f = f (omega arith) d.1
 
 -- Queued
-pub queued-none : (c q : List ℕ) → Queued 0 c q 0
+pub queued_none : (c q : List ℕ) → Queued 0 c q 0
 unfolding taken zeros
-queued-none c q = record { counted = refl; distinct = tt; exact = λ k. (λ i. absurd i, λ i. absurd (omega arith)) }
+queued_none c q = record { counted = refl; distinct = tt; exact = λ k. (λ i. absurd i, λ i. absurd (omega arith)) }
 
 -- the next counter is 0, and its number goes into the queue
-pub queued-push : (j : ℕ) (c q : List ℕ) (t : ℕ) → Queued j c q t → get_or c j 0 ≡ 0 → t < length q → Queued (suc j) c (set q t j) (suc t)
-queued-push j c q t w e h = record { counted = let z = zeros-yes j c e in let y = w.counted in omega arith; distinct = rw (taken-push q t j h) ((λ i. fresh i), w.distinct); exact = λ k. rw (taken-push q t j h) (to k, back k) }
+pub queued_push : (j : ℕ) (c q : List ℕ) (t : ℕ) → Queued j c q t → get_or c j 0 ≡ 0 → t < length q → Queued (suc j) c (set q t j) (suc t)
+queued_push j c q t w e h = record { counted = let z = zeros_yes j c e in let y = w.counted in omega arith; distinct = rw (taken_push q t j h) ((λ i. fresh i), w.distinct); exact = λ k. rw (taken_push q t j h) (to k, back k) }
   where
     fresh : In j (taken q t) → ⊥
     fresh i = let z = (w.exact j).0 i in omega arith
@@ -136,8 +136,8 @@ queued-push j c q t w e h = record { counted = let z = zeros-yes j c e in let y 
         pick (no p) = inr ((w.exact k).1 (omega arith, z))
 
 -- the next counter is not 0
-pub queued-skip : (j : ℕ) (c q : List ℕ) (t : ℕ) → Queued j c q t → get_or c j 0 ≢ 0 → Queued (suc j) c q t
-queued-skip j c q t w f = record { counted = let z = zeros-no j c f in let y = w.counted in omega arith; distinct = w.distinct; exact = λ k. (λ i. let z = (w.exact k).0 i in (omega arith, z.1), λ i. back k i) }
+pub queued_skip : (j : ℕ) (c q : List ℕ) (t : ℕ) → Queued j c q t → get_or c j 0 ≢ 0 → Queued (suc j) c q t
+queued_skip j c q t w f = record { counted = let z = zeros_no j c f in let y = w.counted in omega arith; distinct = w.distinct; exact = λ k. (λ i. let z = (w.exact k).0 i in (omega arith, z.1), λ i. back k i) }
   where
     back : (k : ℕ) → (k < suc j) × (get_or c k 0 ≡ 0) → In k (taken q t)
     back k (l, z) = pick (ℕ_discrete k j)
@@ -147,8 +147,8 @@ queued-skip j c q t w f = record { counted = let z = zeros-no j c f in let y = w
         pick (no p) = (w.exact k).1 (omega arith, z)
 
 -- a counter falls and stays above 0
-pub queued-fall : (j : ℕ) (c q : List ℕ) (t u v : ℕ) → Queued j c q t → u < length c → get_or c u 0 ≢ 0 → 0 < v → Queued j (set c u v) q t
-queued-fall j c q t u v w l f p = record { counted = w.counted ∙ sym (zeros-stay j c u v l f p); distinct = w.distinct; exact = λ k. (to k, back k) }
+pub queued_fall : (j : ℕ) (c q : List ℕ) (t u v : ℕ) → Queued j c q t → u < length c → get_or c u 0 ≢ 0 → 0 < v → Queued j (set c u v) q t
+queued_fall j c q t u v w l f p = record { counted = w.counted ∙ sym (zeros_stay j c u v l f p); distinct = w.distinct; exact = λ k. (to k, back k) }
   where
     value : (k : ℕ) → Dec (k ≡ u) → (get_or c k 0 ≡ 0) ↔ (get_or (set c u v) k 0 ≡ 0)
     value k (yes e) = rw (e, get_or-set_same c u v 0 l) (λ z. absurd (f z), λ z. absurd (omega arith))
@@ -161,8 +161,8 @@ queued-fall j c q t u v w l f p = record { counted = w.counted ∙ sym (zeros-st
     back k (h, z) = (w.exact k).1 (h, (value k (ℕ_discrete k u)).1 z)
 
 -- a counter falls to 0, and its number goes into the queue
-pub queued-free : (j : ℕ) (c q : List ℕ) (t u : ℕ) → Queued j c q t → u < j → u < length c → get_or c u 0 ≢ 0 → t < length q → Queued j (set c u 0) (set q t u) (suc t)
-queued-free j c q t u w h l f s = record { counted = let z = zeros-fall j c u h l f in let y = w.counted in omega arith; distinct = rw (taken-push q t u s) ((λ i. f ((w.exact u).0 i).1), w.distinct); exact = λ k. rw (taken-push q t u s) (to k (ℕ_discrete k u), back k (ℕ_discrete k u)) }
+pub queued_free : (j : ℕ) (c q : List ℕ) (t u : ℕ) → Queued j c q t → u < j → u < length c → get_or c u 0 ≢ 0 → t < length q → Queued j (set c u 0) (set q t u) (suc t)
+queued_free j c q t u w h l f s = record { counted = let z = zeros_fall j c u h l f in let y = w.counted in omega arith; distinct = rw (taken_push q t u s) ((λ i. f ((w.exact u).0 i).1), w.distinct); exact = λ k. rw (taken_push q t u s) (to k (ℕ_discrete k u), back k (ℕ_discrete k u)) }
   where
     to : (k : ℕ) → Dec (k ≡ u) → (k ≡ u) ⊎ In k (taken q t) → (k < j) × (get_or (set c u 0) k 0 ≡ 0)
     to k (yes e) i = rw e (h, get_or-set_same c u 0 0 l)

@@ -9,30 +9,30 @@ use borrow.Author.Tests.{eqb-true, eq-eqb}
 use lib.Dec.{eqb}
 use lib.ListN.{length, get_or, replicate, length-replicate, get_or-replicate}
 use Rattle.causes.specs.Links.{times}
-use Rattle.causes.proofs.Taking.{times-le}
+use Rattle.causes.proofs.Taking.{times_le}
 use Rattle.causes.specs.Columns.{Below}
 use Rattle.cycles.specs.Graph.{Columns, Acyclic}
 use Rattle.cycles.specs.Counters.{Room, Counted, Ready}
 use Rattle.cycles.specs.Queue.{Queued}
 
-zero-at : (c : List ℕ) (n m : ℕ) → c ≡ replicate n 0 → m < n → get_or c m 0 ≡ 0
-zero-at c n m e h = ap (λ (l : List ℕ). get_or l m 0) e ∙ get_or-replicate n m 0 0 h
+zero_at : (c : List ℕ) (n m : ℕ) → c ≡ replicate n 0 → m < n → get_or c m 0 ≡ 0
+zero_at c n m e h = ap (λ (l : List ℕ). get_or l m 0) e ∙ get_or-replicate n m 0 0 h
 
 module _ (one two c₀ c : List ℕ) (p : Columns one two) (n : length c₀ ≡ length one) (e : c ≡ replicate (length c₀) 0) where
   sized : length c ≡ length one
   sized = ap length e ∙ length-replicate (length c₀) 0 ∙ n
 
   -- the first column can be counted
-  pub first-asked : Below (length c) one × Room (length one) c
-  first-asked = (rw sized p.below_one, λ m h. let a = zero-at c (length c₀) m e (let z = sized in omega arith) in let b = p.few in omega arith)
+  pub first_asked : Below (length c) one × Room (length one) c
+  first_asked = (rw sized p.below_one, λ m h. let a = zero_at c (length c₀) m e (let z = sized in omega arith) in let b = p.few in omega arith)
 
   module _ (c' : List ℕ) (n' : length c' ≡ length c) (w : Counted one c c') where
     once : (m : ℕ) → m < length one → get_or c' m 0 ≡ times m one
-    once m h = let a = zero-at c (length c₀) m e (omega arith) in let b = w m (let z = sized in omega arith) in omega arith
+    once m h = let a = zero_at c (length c₀) m e (omega arith) in let b = w m (let z = sized in omega arith) in omega arith
 
     -- and so can the second
-    pub second-asked : Below (length c') two × Room (length two) c'
-    second-asked = (rw (n' ∙ sized) p.below_two, λ m h. let z = sized in let a = once m (omega arith) in let b = times-le m one in let f = p.few in let g = p.alike in omega arith)
+    pub second_asked : Below (length c') two × Room (length two) c'
+    second_asked = (rw (n' ∙ sized) p.below_two, λ m h. let z = sized in let a = once m (omega arith) in let b = times_le m one in let f = p.few in let g = p.alike in omega arith)
 
     -- all is ready
     pub ready : (c'' q : List ℕ) (t : ℕ) → length c'' ≡ length c' → Counted two c' c'' → length one ≤ length q → Queued (length c'') c'' q t → Ready one two c'' q t

@@ -18,5 +18,5 @@ pub record Columns (one two : List ℕ) : Type 0 where
   pub few : length one ≤ 32767
   pub below_one : Below (length one) one
   pub below_two : Below (length one) two
-  pub root-one : get_or one 0 0 ≡ 0
-  pub root-two : get_or two 0 0 ≡ 0
+  pub root_one : get_or one 0 0 ≡ 0
+  pub root_two : get_or two 0 0 ≡ 0

@@ -2,7 +2,7 @@
 use Rattle.std.specs.Prelude.{◌≡◌, ◌↔◌, List, [], ◌∷◌, ℕ, zero, suc, ◌<◌, get_or}
 use Rattle.std.proofs.Math.Decide.{ℕ_discrete}
 use Rattle.ccsk.specs.Numbers.{In}
-use Rattle.causes.specs.Links.{one-when}
+use Rattle.causes.specs.Links.{one_when}
 
 -- the first h numbers of a queue, the latest first
 unfoldable pub taken : List ℕ → ℕ → List ℕ
@@ -12,7 +12,7 @@ taken q (suc h) = get_or q h 0 ∷ taken q h
 -- how many of the first j counters are 0
 unfoldable pub zeros : ℕ → List ℕ → ℕ
 zeros zero c = 0
-zeros (suc j) c = one-when (ℕ_discrete (get_or c j 0) 0) (zeros j c)
+zeros (suc j) c = one_when (ℕ_discrete (get_or c j 0) 0) (zeros j c)
 
 -- no number stands twice
 abbrev pub Distinct : List ℕ → Type 0

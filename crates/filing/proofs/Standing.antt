@@ -9,7 +9,7 @@ use native.Mathlib.Omega.{arith}
 use Rattle.ccsk.specs.Numbers.{In}
 use Rattle.ccsk.specs.Term.{Term, Key, keys, done}
 use Rattle.ccsk.proofs.Lists.{in_left, in_right, in_either}
-use Rattle.ccsk.proofs.Keys.{has_in, in-has}
+use Rattle.ccsk.proofs.Keys.{has_in, in_has}
 use Rattle.keys.specs.Gather.{RecordOf}
 use Rattle.filing.specs.Record.{Stands, MetBy}
 
@@ -19,14 +19,14 @@ Tells m l true = In m l
 Tells m l false = ¬ In m l
 
 -- a key above 0 stands in the list of itself alone
-in-done : (m k : Key) → 0 < m → k ≡ m → In m (done k [])
-in-done m zero h e = absurd (omega arith)
-in-done m (suc k) h e = inl (sym e)
+in_done : (m k : Key) → 0 < m → k ≡ m → In m (done k [])
+in_done m zero h e = absurd (omega arith)
+in_done m (suc k) h e = inl (sym e)
 
-done-in : (m k : Key) → In m (done k []) → k ≡ m
-done-in m zero i = absurd i
-done-in m (suc k) (inl e) = sym e
-done-in m (suc k) (inr i) = absurd i
+done_in : (m k : Key) → In m (done k []) → k ≡ m
+done_in m zero i = absurd i
+done_in m (suc k) (inl e) = sym e
+done_in m (suc k) (inr i) = absurd i
 
 -- one node more
 pub tells_more : (m k : Key) (l : List Key) (met r : Bool) → 0 < m → MetBy met k m r → Tells m l met → Tells m (l ++ done k []) r
@@ -34,13 +34,13 @@ tells_more m k l met r p M t = pick (ℕ_discrete k m)
   where
     longer : (b : Bool) → (k ≡ m → ⊥) → Tells m l b → Tells m (l ++ done k []) b
     longer true n i = in_left m l (done k []) i
-    longer false n f = λ i. ⊎_elim f (λ j. n (done-in m k j)) (in_either m l (done k []) i)
+    longer false n f = λ i. ⊎_elim f (λ j. n (done_in m k j)) (in_either m l (done k []) i)
 
     pick : Dec (k ≡ m) → Tells m (l ++ done k []) r
-    pick (yes e) = rw (M.same e) (in_right m l (done k []) (in-done m k p e))
+    pick (yes e) = rw (M.same e) (in_right m l (done k []) (in_done m k p e))
     pick (no e) = rw (M.other e) (longer met e t)
 
 -- told of all keys of a record
 pub stands : (s : List ℕ) (m : Key) (t : Term) → RecordOf s t → 0 < m → (met : Bool) → Tells m (keys t) met → Stands s m met
-stands s m t R p true i = (t, R, (in-has m t i).1)
+stands s m t R p true i = (t, R, (in_has m t i).1)
 stands s m t R p false f = (t, R, λ w. f (has_in m t p w))

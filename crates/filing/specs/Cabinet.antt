@@ -1,7 +1,7 @@
 -- Links from a key to one right below it, in four columns. The links are numbered from 1; 0 is none. Each is filed in the drawer of its upper key.
 use Rattle.std.specs.Prelude.{◌≡◌, ◌⊎◌, List, ℕ, zero, suc, ◌+◌, ◌*◌, ◌<◌, ◌/◌, ◌%◌, length, get_or, set}
 use Rattle.ccsk.specs.Term.{Key}
-use Rattle.format.specs.Limits.{node-limit}
+use Rattle.format.specs.Limits.{node_limit}
 
 -- For each link its upper key, 0 while there is no such link, its lower key, and the link filed before it in its drawer; for each drawer its
 -- latest link.
@@ -16,10 +16,10 @@ cabinet us ls os ds = record { upper = us; lower = ls; older = os; latest = ds }
 
 -- each column of links has a place for link 0 and one for each node that a record may have; there are as many drawers as such nodes
 pub record Sized (x : Cabinet) : Type 0 where
-  pub upper : length x.upper ≡ suc node-limit
-  pub lower : length x.lower ≡ suc node-limit
-  pub older : length x.older ≡ suc node-limit
-  pub latest : length x.latest ≡ node-limit
+  pub upper : length x.upper ≡ suc node_limit
+  pub lower : length x.lower ≡ suc node_limit
+  pub older : length x.older ≡ suc node_limit
+  pub latest : length x.latest ≡ node_limit
 
 -- nothing is filed
 pub record Empty (x : Cabinet) : Type 0 where
@@ -34,7 +34,7 @@ Link x m n = (i : ℕ) × (0 < m) × (get_or x.upper i 0 ≡ m) × (get_or x.low
 -- The drawer of a key. Keys less than 3,839 apart have different drawers, and so have keys that differ by a multiple of the number of drawers.
 -- No more than 16 keys share a drawer.
 abbrev pub drawer : Key → ℕ
-drawer k = (k + k / node-limit * 257) % node-limit
+drawer k = (k + k / node_limit * 257) % node_limit
 
 -- link i is in drawer b
 abbrev pub InDrawer : Cabinet → ℕ → ℕ → Type 0
@@ -50,15 +50,15 @@ pub record Latest (x : Cabinet) (b end h : ℕ) : Type 0 where
 pub record Filed (x : Cabinet) : Type 0 where
   pub sized : Sized x
   pub zero : get_or x.upper 0 0 ≡ 0
-  pub latest : (b : ℕ) → b < node-limit → Latest x b (suc node-limit) (get_or x.latest b 0)
+  pub latest : (b : ℕ) → b < node_limit → Latest x b (suc node_limit) (get_or x.latest b 0)
   pub older : (i : ℕ) → 0 < get_or x.upper i 0 → Latest x (drawer (get_or x.upper i 0)) i (get_or x.older i 0)
 
 -- the cabinet with link i, from u down to k, as the latest of its drawer
-abbrev pub with-link : Cabinet → ℕ → Key → Key → Cabinet
-with-link x i u k =
+abbrev pub with_link : Cabinet → ℕ → Key → Key → Cabinet
+with_link x i u k =
     cabinet (set x.upper i u) (set x.lower i k) (set x.older i (get_or x.latest (drawer u) 0)) (set x.latest (drawer u) i)
 
 -- After n links, one more from u to k is filed, unless u or k is 0 and no key: there are r links then.
 pub data Files (n : ℕ) (u k : Key) (x : Cabinet) : Cabinet → ℕ → Type 0 where
   none : (u ≡ 0) ⊎ (k ≡ 0) → Files n u k x x n
-  one : 0 < u → 0 < k → Files n u k x (with-link x (n + 1) u k) (n + 1)
+  one : 0 < u → 0 < k → Files n u k x (with_link x (n + 1) u k) (n + 1)

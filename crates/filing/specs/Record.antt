@@ -2,7 +2,7 @@
 use Rattle.std.specs.Prelude.{◌≡◌, ◌≢◌, ◌↔◌, List, ◌∷◌, Bool, true, false, ℕ, zero, suc, ◌+◌, ◌-◌, ◌≤◌, ◌<◌, length, get_or}
 use Rattle.ccsk.specs.Term.{Term, Key, Has, Fsh}
 use Rattle.causes.specs.Nearest.{RightAbove}
-use Rattle.format.specs.Limits.{node-limit}
+use Rattle.format.specs.Limits.{node_limit}
 use Rattle.format.specs.Read.{Refuses}
 use Rattle.reader.specs.Due.{stacked, push}
 use Rattle.keys.specs.Gather.{RecordOf}
@@ -37,7 +37,7 @@ Stands s m false = (t : Term) × RecordOf s t × Fsh m t
 
 -- there are n links, with the numbers from 1 on
 abbrev pub FiledUpTo : Cabinet → ℕ → Type 0
-FiledUpTo x n = (n ≤ node-limit) × ((i : ℕ) → n < i → get_or x.upper i 0 ≡ 0)
+FiledUpTo x n = (n ≤ node_limit) × ((i : ℕ) → n < i → get_or x.upper i 0 ≡ 0)
 
 -- what `file_all` answers for the key m: the bytes are refused, m does not stand in the record, or it does and all n links are filed
 abbrev pub FilesAll : List ℕ → Key → Cabinet → Found → Type 0

@@ -2,7 +2,7 @@
 // the links of a key.
 // Helpers between crates, with what each asks of its caller.
 ghost use Rattle.std.specs.Prelude.{◌≡◌, ◌<◌, ◌≤◌, length};
-ghost use Rattle.format.specs.Limits.{node-limit};
+ghost use Rattle.format.specs.Limits.{node_limit};
 ghost use Rattle.filing.specs.Cabinet.{cabinet, Sized, Empty, drawer, Files};
 ghost use Rattle.filing.specs.Record.{below, Pushed, MetBy, FilesAll};
 
@@ -44,7 +44,7 @@ fn file(
     latest: &mut [u16],
 ) -> usize
     requires sized { Sized (cabinet upper.old lower.old older.old latest.old) }
-    requires links_lt_node_limit { links < node-limit }
+    requires links_lt_node_limit { links < node_limit }
     ensures { Files links up here (cabinet upper.old lower.old older.old latest.old) (cabinet upper.new lower.new older.new latest.new) result }
 {
     if up == 0 {

@@ -1,7 +1,7 @@
 -- What the program's findings mean: its enums and structs against the definitions of one pass.
 use Rattle.std.specs.Prelude.{◌≡◌, Bool, true, false, ℕ, eqb, length, get_or}
 use Rattle.ccsk.specs.Term.{Term, Key, Node}
-use Rattle.moves.specs.Choose.{forward-choice, undo-choice, spots}
+use Rattle.moves.specs.Choose.{forward_choice, undo_choice, spots}
 use Rattle.moves.specs.Move.{holds, move}
 use Rattle.moves.specs.Move as pass
 use Rattle.findings.specs.declared.Move.{Move}
@@ -22,10 +22,10 @@ pick false a b = b
 
 -- the prefixes that are chosen, and the keys with which a chosen one may step: any for an undo, 0 for a forward step
 abbrev pub choice_of : Ask → Node → Key → Bool
-choice_of ask n k = pick ask.undo (undo-choice ask.key n k) (forward-choice ask.p ask.q n k)
+choice_of ask n k = pick ask.undo (undo_choice ask.key n k) (forward_choice ask.p ask.q n k)
 
-abbrev pub mayOf : Ask → Key → Bool
-mayOf ask k = pick ask.undo true (eqb k 0)
+abbrev pub may_of : Ask → Key → Bool
+may_of ask k = pick ask.undo true (eqb k 0)
 
 -- The findings are those of the one pass, for a term whose root is node n and whose bytes begin at the position i.
 pub record Found (ask : Ask) (i : ℕ) (n : Node) (t : Term) (r : Seen) : Type 0 where
@@ -34,4 +34,4 @@ pub record Found (ask : Ask) (i : ℕ) (n : Node) (t : Term) (r : Seen) : Type 0
   pub count : r.count ≡ length (spots (choice_of ask) i n t)
   pub first : r.first ≡ get_or (spots (choice_of ask) i n t) 0 0
   pub second : r.second ≡ get_or (spots (choice_of ask) i n t) 1 0
-  pub moved : move_of r.moved ≡ move (choice_of ask) (mayOf ask) n t
+  pub moved : move_of r.moved ≡ move (choice_of ask) (may_of ask) n t

@@ -1,7 +1,7 @@
 // What one pass finds of a part of a record, and how the moves of its parts combine at each node.
 ghost use Rattle.std.specs.Prelude.{◌≡◌};
-ghost use Rattle.moves.specs.Move.{overPrefix, overChoice, overParallel, overRestriction};
-ghost use Rattle.findings.specs.Seen.{move_of, choice_of, mayOf};
+ghost use Rattle.moves.specs.Move.{move_over_prefix, move_over_choice, move_over_parallel, move_over_restriction};
+ghost use Rattle.findings.specs.Seen.{move_of, choice_of, may_of};
 
 use shared::{NOT_DONE, Name, TAU, complementary, is_on};
 
@@ -53,7 +53,7 @@ pub fn is_chosen(ask: Ask, n: u16, key: u16) -> bool
 
 // Whether a chosen prefix with this key may step: forward only if it is not done yet.
 pub fn may_step(ask: Ask, key: u16) -> bool
-    ensures { result ≡ mayOf ask key }
+    ensures { result ≡ may_of ask key }
 {
     if ask.undo {
         return true;
@@ -63,7 +63,7 @@ pub fn may_step(ask: Ask, key: u16) -> bool
 
 // The move of a prefix, from whether it is chosen, may step and is done, whether a key stands below it, and the move below it.
 pub fn over_prefix(chosen: bool, may: bool, done: bool, any: bool, action: u8, below: Move) -> Move
-    ensures { move_of result ≡ overPrefix chosen may done any action (move_of below) }
+    ensures { move_of result ≡ move_over_prefix chosen may done any action (move_of below) }
 {
     match below {
         Move::Still => {
@@ -93,7 +93,7 @@ pub fn over_prefix(chosen: bool, may: bool, done: bool, any: bool, action: u8, b
 
 // The move of a choice, from whether each side holds a key and the moves of the sides.
 pub fn over_choice(lkeys: bool, rkeys: bool, left: Move, right: Move) -> Move
-    ensures { move_of result ≡ overChoice lkeys rkeys (move_of left) (move_of right) }
+    ensures { move_of result ≡ move_over_choice lkeys rkeys (move_of left) (move_of right) }
 {
     match left {
         Move::Still => match right {
@@ -122,7 +122,7 @@ pub fn over_choice(lkeys: bool, rkeys: bool, left: Move, right: Move) -> Move
 
 // The move of a parallel, from the moves of its sides.
 pub fn over_parallel(left: Move, right: Move) -> Move
-    ensures { move_of result ≡ overParallel (move_of left) (move_of right) }
+    ensures { move_of result ≡ move_over_parallel (move_of left) (move_of right) }
 {
     match left {
         Move::Still => right,
@@ -142,7 +142,7 @@ pub fn over_parallel(left: Move, right: Move) -> Move
 
 // The move of a restriction, from the move below it.
 pub fn over_restriction(name: Name, below: Move) -> Move
-    ensures { move_of result ≡ overRestriction name.0 (move_of below) }
+    ensures { move_of result ≡ move_over_restriction name.0 (move_of below) }
 {
     match below {
         Move::Still => Move::Still,

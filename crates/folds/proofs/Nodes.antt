@@ -35,36 +35,36 @@ sides true c x y e t u m n = record { held = rw (m.held, n.held); first = rw (m.
 sides false c x y e t u m n = record { held = rw (m.held, n.held); first = rw (m.first, n.first); second = e ∙ rw (m.second, n.second) }
 
 -- the test for condition 2 at a node with two children, way by way
-and-false : (x : Bool) → (x && false) ≡ false
-and-false true = refl
-and-false false = refl
+and_false : (x : Bool) → (x && false) ≡ false
+and_false true = refl
+and_false false = refl
 
-and-true : (x : Bool) → (x && true) ≡ x
-and-true true = refl
-and-true false = refl
+and_true : (x : Bool) → (x && true) ≡ x
+and_true true = refl
+and_true false = refl
 
 abbrev Both : Bool → Bool → Bool → Bool → Bool → Bool
 Both b h g x y = not (b && (h && g)) && (x && y)
 
-pub first-fails : (b h g x y : Bool) → x ≡ false → false ≡ Both b h g x y
-first-fails b h g x y e = rw (e, and-false (not (b && (h && g))))
+pub first_fails : (b h g x y : Bool) → x ≡ false → false ≡ Both b h g x y
+first_fails b h g x y e = rw (e, and_false (not (b && (h && g))))
 
-pub second-fails : (b h g x y : Bool) → x ≡ true → y ≡ false → false ≡ Both b h g x y
-second-fails b h g x y e f = rw (e, f, and-false (not (b && (h && g))))
+pub second_fails : (b h g x y : Bool) → x ≡ true → y ≡ false → false ≡ Both b h g x y
+second_fails b h g x y e f = rw (e, f, and_false (not (b && (h && g))))
 
-pub parallel-holds : (b h g x y : Bool) → x ≡ true → y ≡ true → b ≡ false → true ≡ Both b h g x y
-parallel-holds b h g x y e f q = rw (e, f, q)
+pub parallel_holds : (b h g x y : Bool) → x ≡ true → y ≡ true → b ≡ false → true ≡ Both b h g x y
+parallel_holds b h g x y e f q = rw (e, f, q)
 
-pub first-empty : (b h g x y : Bool) → x ≡ true → y ≡ true → b ≡ true → h ≡ false → true ≡ Both b h g x y
-first-empty b h g x y e f q z = rw (e, f, q, z)
+pub first_empty : (b h g x y : Bool) → x ≡ true → y ≡ true → b ≡ true → h ≡ false → true ≡ Both b h g x y
+first_empty b h g x y e f q z = rw (e, f, q, z)
 
 pub second_empty : (b h g x y : Bool) → x ≡ true → y ≡ true → b ≡ true → h ≡ true → not g ≡ Both b h g x y
-second_empty b h g x y e f q z = rw (e, f, q, z, and-true (not g))
+second_empty b h g x y e f q z = rw (e, f, q, z, and_true (not g))
 
 pub none : OfNil (record { holds = false; waits = true; chosen = true })
 unfolding holds waits chosen
 none = record { held = refl; first = refl; second = refl }
 
 -- the marks of a node with two children, from those that were worked out for it
-pub two-sides : (b : Bool) (x y : Marks) (h w c : Bool) → h ≡ (x.holds || y.holds) → w ≡ (x.waits && y.waits) → c ≡ (not (b && (x.holds && y.holds)) && (x.chosen && y.chosen)) → (t u : Term) → MarksOf t x → MarksOf u y → MarksOf (join b t u) (record { holds = h; waits = w; chosen = c })
-two-sides b x y h w c e f g t u m n = let z = sides b c x y g t u m n in record { held = e ∙ z.held; first = f ∙ z.first; second = z.second }
+pub two_sides : (b : Bool) (x y : Marks) (h w c : Bool) → h ≡ (x.holds || y.holds) → w ≡ (x.waits && y.waits) → c ≡ (not (b && (x.holds && y.holds)) && (x.chosen && y.chosen)) → (t u : Term) → MarksOf t x → MarksOf u y → MarksOf (join b t u) (record { holds = h; waits = w; chosen = c })
+two_sides b x y h w c e f g t u m n = let z = sides b c x y g t u m n in record { held = e ∙ z.held; first = f ∙ z.first; second = z.second }

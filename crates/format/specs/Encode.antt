@@ -1,7 +1,7 @@
 -- Writing a term as a record, and which terms a record can hold (01, The record).
 use Rattle.std.specs.Prelude.{◌≢◌, List, [], ◌∷◌, ◌++◌, ℕ, suc, ◌≤◌, ◌<◌, ◌/◌, ◌%◌, max}
 use Rattle.ccsk.specs.Term.{Term, Key, nil, pre, cho, par, res, Channel, size}
-use Rattle.format.specs.Limits.{node-limit, depth-limit}
+use Rattle.format.specs.Limits.{node_limit, depth_limit}
 
 -- the high and the low byte of a key
 abbrev pub high : Key → ℕ
@@ -37,8 +37,8 @@ InRange (res a t) = Channel a × InRange t
 -- a term within the limits
 pub record Fits (t : Term) : Type 0 where
   pub range : InRange t
-  pub deep : depth t ≤ depth-limit
-  pub nodes : size t ≤ node-limit
+  pub deep : depth t ≤ depth_limit
+  pub nodes : size t ≤ node_limit
 
 -- every number of the list is a byte
 abbrev pub Bytes : List ℕ → Type 0

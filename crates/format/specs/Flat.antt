@@ -24,30 +24,30 @@ after (par t u ∷ ts) = t ∷ (u ∷ ts)
 after (res a t ∷ ts) = t ∷ ts
 
 -- the kind and the key of the first node; its key is 0 if it is no prefix
-unfoldable pub headKind : List Term → ℕ
-headKind [] = 0
-headKind (nil ∷ ts) = 0
-headKind (pre a k t ∷ ts) = 1
-headKind (cho t u ∷ ts) = 2
-headKind (par t u ∷ ts) = 3
-headKind (res a t ∷ ts) = 4
+unfoldable pub head_kind : List Term → ℕ
+head_kind [] = 0
+head_kind (nil ∷ ts) = 0
+head_kind (pre a k t ∷ ts) = 1
+head_kind (cho t u ∷ ts) = 2
+head_kind (par t u ∷ ts) = 3
+head_kind (res a t ∷ ts) = 4
 
-unfoldable pub headKey : List Term → Key
-headKey [] = 0
-headKey (nil ∷ ts) = 0
-headKey (pre a k t ∷ ts) = k
-headKey (cho t u ∷ ts) = 0
-headKey (par t u ∷ ts) = 0
-headKey (res a t ∷ ts) = 0
+unfoldable pub head_key : List Term → Key
+head_key [] = 0
+head_key (nil ∷ ts) = 0
+head_key (pre a k t ∷ ts) = k
+head_key (cho t u ∷ ts) = 0
+head_key (par t u ∷ ts) = 0
+head_key (res a t ∷ ts) = 0
 
 -- the action or the name of the first node; 0 if it has neither
-unfoldable pub headArg : List Term → ℕ
-headArg [] = 0
-headArg (nil ∷ ts) = 0
-headArg (pre a k t ∷ ts) = a
-headArg (cho t u ∷ ts) = 0
-headArg (par t u ∷ ts) = 0
-headArg (res a t ∷ ts) = a
+unfoldable pub head_arg : List Term → ℕ
+head_arg [] = 0
+head_arg (nil ∷ ts) = 0
+head_arg (pre a k t ∷ ts) = a
+head_arg (cho t u ∷ ts) = 0
+head_arg (par t u ∷ ts) = 0
+head_arg (res a t ∷ ts) = a
 
 -- From the place `at` on, the bytes s are the record of the terms ts.
 abbrev pub Due : List ℕ → ℕ → List Term → Type 0

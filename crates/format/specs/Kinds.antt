@@ -9,9 +9,9 @@ abbrev pub families : List ℕ
 families = 0 ∷ 1 ∷ 2 ∷ 2 ∷ 1 ∷ []
 
 -- how many bytes the body of a node of a kind has
-abbrev pub bodyLength : ℕ → ℕ
-bodyLength kind = get_or bodies kind 0
+abbrev pub length_of_body : ℕ → ℕ
+length_of_body kind = get_or bodies kind 0
 
 -- how many children it has
-abbrev pub childCount : ℕ → ℕ
-childCount kind = get_or families kind 0
+abbrev pub count_of_children : ℕ → ℕ
+count_of_children kind = get_or families kind 0

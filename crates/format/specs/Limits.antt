@@ -2,9 +2,9 @@
 use Rattle.std.specs.Prelude.{ℕ}
 
 -- at most so many nodes
-abbrev pub node-limit : ℕ
-node-limit = 4096
+abbrev pub node_limit : ℕ
+node_limit = 4096
 
 -- the root has depth 1, and no node is deeper than this
-abbrev pub depth-limit : ℕ
-depth-limit = 256
+abbrev pub depth_limit : ℕ
+depth_limit = 256

@@ -1,7 +1,7 @@
 -- Reading a record: bytes from the left, and the first offence decides (01, The record).
 use Rattle.std.specs.Prelude.{◌≡◌, List, [], ◌∷◌, Bool, true, false, ℕ, zero, suc, ◌+◌, ◌*◌, eqb, leb}
 use Rattle.ccsk.specs.Term.{Term, Key, nil, pre, cho, par, res}
-use Rattle.format.specs.Limits.{node-limit, depth-limit}
+use Rattle.format.specs.Limits.{node_limit, depth_limit}
 
 -- What reading a term comes to: a refusal number, or the term, the bytes after it, and how many nodes may still come.
 pub data Reading : Type 0 where
@@ -40,11 +40,11 @@ unless true r = refused 1
 unless false r = r
 
 -- one child, or two, under what the node makes of them; r reads a child
-abbrev pub oneChild : (Term → Term) → (ℕ → List ℕ → Reading) → ℕ → List ℕ → Reading
-oneChild f r k s = onward (r k s) (λ t s k. term (f t) s k)
+abbrev pub one_child : (Term → Term) → (ℕ → List ℕ → Reading) → ℕ → List ℕ → Reading
+one_child f r k s = onward (r k s) (λ t s k. term (f t) s k)
 
-abbrev pub twoChildren : (Term → Term → Term) → (ℕ → List ℕ → Reading) → ℕ → List ℕ → Reading
-twoChildren f r k s = onward (r k s) (λ t s k. onward (r k s) (λ u s k. term (f t u) s k))
+abbrev pub two_children : (Term → Term → Term) → (ℕ → List ℕ → Reading) → ℕ → List ℕ → Reading
+two_children f r k s = onward (r k s) (λ t s k. onward (r k s) (λ u s k. term (f t u) s k))
 
 -- A node after its byte of kind: its body, the tests on the body, its children. k nodes may still come after this one.
 -- Action 128 is refused, and so is a restriction name outside 1 to 127.
@@ -53,11 +53,11 @@ node nil-kind r k s = term nil s k
 node prefix-kind r k [] = refused 1
 node prefix-kind r k (a ∷ []) = refused 1
 node prefix-kind r k (a ∷ (h ∷ [])) = refused 1
-node prefix-kind r k (a ∷ (h ∷ (l ∷ s))) = unless (eqb a 128) (oneChild (pre a (key_of h l)) r k s)
-node choice-kind r k s = twoChildren cho r k s
-node parallel-kind r k s = twoChildren par r k s
+node prefix-kind r k (a ∷ (h ∷ (l ∷ s))) = unless (eqb a 128) (one_child (pre a (key_of h l)) r k s)
+node choice-kind r k s = two_children cho r k s
+node parallel-kind r k s = two_children par r k s
 node restriction-kind r k [] = refused 1
-node restriction-kind r k (a ∷ s) = provided (leb 1 a) (provided (leb a 127) (oneChild (res a) r k s))
+node restriction-kind r k (a ∷ s) = provided (leb 1 a) (provided (leb a 127) (one_child (res a) r k s))
 node no_kind r k s = refused 1
 
 -- A node that is due, with d levels and k nodes left: bytes ended, then the limits, then the node itself.
@@ -82,7 +82,7 @@ finish (term t (b ∷ s) k) = Opened.refused 1
 
 -- The record that the bytes are.
 unfoldable pub decode : List ℕ → Opened
-decode s = finish (read depth-limit node-limit s)
+decode s = finish (read depth_limit node_limit s)
 
 -- the bytes are the record of the term t
 abbrev pub Reads : List ℕ → Term → Type 0

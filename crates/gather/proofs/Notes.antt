@@ -11,111 +11,111 @@ use lib.ListN.{length, take, length-append}
 use lib.Seq.{length-take-le, set-set, set-get_or}
 use Rattle.ccsk.specs.Term.{Term, Key, Node, nil, pre, cho, par, res, keys, done, size}
 use Rattle.moves.specs.Move.{holds}
-use Rattle.lasts.specs.Last.{Last, Scopes, slot, scope_of, enclosed, over-prefix, over-choice, lasts}
+use Rattle.lasts.specs.Last.{Last, Scopes, slot, scope_of, enclosed, last_over_prefix, last_over_choice, lasts}
 use Rattle.noting.specs.declared.Entered.{Entered}
-use Rattle.noting.specs.Node.{key-at, name-at, Enters, closed, OverPrefix, over-two}
-use Rattle.noting.proofs.Rows.{cut-back}
+use Rattle.noting.specs.Node.{key_standing_at, name_at, Enters, closed, OverPrefix, noted_over_two}
+use Rattle.noting.proofs.Rows.{cut_back}
 use Rattle.gather.specs.Gather.{Lent, Noted}
 
-done-front : (k : Key) (x : List Key) → done k x ≡ done k [] ++ x
-done-front zero x = refl
-done-front (suc k) x = refl
+done_front : (k : Key) (x : List Key) → done k x ≡ done k [] ++ x
+done_front zero x = refl
+done_front (suc k) x = refl
 
 -- a term holds a key exactly if its keys were counted
-both-none : (a b : ℕ) → (not (eqb a 0) || not (eqb b 0)) ≡ not (eqb (a + b) 0)
-both-none zero b = let e : 0 + b ≡ b = omega arith in rw e
-both-none (suc a) b = rw (ne_eqb (suc a) 0 (λ e. omega arith), ne_eqb (suc a + b) 0 (λ e. omega arith))
+both_none : (a b : ℕ) → (not (eqb a 0) || not (eqb b 0)) ≡ not (eqb (a + b) 0)
+both_none zero b = let e : 0 + b ≡ b = omega arith in rw e
+both_none (suc a) b = rw (ne_eqb (suc a) 0 (λ e. omega arith), ne_eqb (suc a + b) 0 (λ e. omega arith))
 
 some_key : (t : Term) → holds t ≡ not (eqb (length (keys t)) 0)
 unfolding holds keys
 some_key nil = refl
 some_key (pre a zero t) = some_key t
 some_key (pre a (suc k) t) = rw (ne_eqb (suc k) 0 (λ e. omega arith), ne_eqb (suc (length (keys t))) 0 (λ e. omega arith))
-some_key (cho t u) = rw (some_key t, some_key u, both-none (length (keys t)) (length (keys u)), length-append (keys t) (keys u))
-some_key (par t u) = rw (some_key t, some_key u, both-none (length (keys t)) (length (keys u)), length-append (keys t) (keys u))
+some_key (cho t u) = rw (some_key t, some_key u, both_none (length (keys t)) (length (keys u)), length-append (keys t) (keys u))
+some_key (par t u) = rw (some_key t, some_key u, both_none (length (keys t)) (length (keys u)), length-append (keys t) (keys u))
 some_key (res a t) = some_key t
 
-pub holds-counted : (t : Term) (k k' : ℕ) → k' ≡ k + length (keys t) → holds t ≡ not (eqb k' k)
-holds-counted t k k' e = some_key t ∙ pick (ℕ_discrete (length (keys t)) 0)
+pub holds_counted : (t : Term) (k k' : ℕ) → k' ≡ k + length (keys t) → holds t ≡ not (eqb k' k)
+holds_counted t k k' e = some_key t ∙ pick (ℕ_discrete (length (keys t)) 0)
   where
     pick : Dec (length (keys t) ≡ 0) → not (eqb (length (keys t)) 0) ≡ not (eqb k' k)
     pick (yes z) = rw (eq-eqb (length (keys t)) 0 z, eq-eqb k' k (omega arith))
     pick (no z) = rw (ne_eqb (length (keys t)) 0 z, ne_eqb k' k (λ q. z (omega arith)))
 
 -- no more lasts than keys
-prefix-few : (k : Key) (e : Last) (h : Bool) (x : List Last) (y : List Key) → length x ≤ length y → length (over-prefix (eqb k 0) h e x) ≤ length (done k y)
-prefix-few zero e h x y l = omega arith
-prefix-few (suc k) e true x y l = rw (ne_eqb (suc k) 0 (λ z. omega arith)) (omega arith)
-prefix-few (suc k) e false x y l = rw (ne_eqb (suc k) 0 (λ z. omega arith)) (omega arith)
+prefix_few : (k : Key) (e : Last) (h : Bool) (x : List Last) (y : List Key) → length x ≤ length y → length (last_over_prefix (eqb k 0) h e x) ≤ length (done k y)
+prefix_few zero e h x y l = omega arith
+prefix_few (suc k) e true x y l = rw (ne_eqb (suc k) 0 (λ z. omega arith)) (omega arith)
+prefix_few (suc k) e false x y l = rw (ne_eqb (suc k) 0 (λ z. omega arith)) (omega arith)
 
-choice-few : (f g : Bool) (x y : List Last) (v w : List Key) → length x ≤ length v → length y ≤ length w → length (over-choice f g x y) ≤ length (v ++ w)
-choice-few true true x y v w h i = omega arith
-choice-few true false x y v w h i = rw (length-append x y, length-append v w) (omega arith)
-choice-few false g x y v w h i = rw (length-append x y, length-append v w) (omega arith)
+choice_few : (f g : Bool) (x y : List Last) (v w : List Key) → length x ≤ length v → length y ≤ length w → length (last_over_choice f g x y) ≤ length (v ++ w)
+choice_few true true x y v w h i = omega arith
+choice_few true false x y v w h i = rw (length-append x y, length-append v w) (omega arith)
+choice_few false g x y v w h i = rw (length-append x y, length-append v w) (omega arith)
 
-pub lasts-few : (n : Node) (s : Scopes) (t : Term) → length (lasts n s t) ≤ length (keys t)
+pub lasts_few : (n : Node) (s : Scopes) (t : Term) → length (lasts n s t) ≤ length (keys t)
 unfolding lasts keys
-lasts-few n s nil = omega arith
-lasts-few n s (pre a k t) = prefix-few k _ (holds t) (lasts (n + 1) s t) (keys t) (lasts-few (n + 1) s t)
-lasts-few n s (cho t u) = choice-few (holds t) (holds u) (lasts (n + 1) s t) (lasts (n + 1 + size t) s u) (keys t) (keys u) (lasts-few (n + 1) s t) (lasts-few (n + 1 + size t) s u)
-lasts-few n s (par t u) = choice-few false false (lasts (n + 1) s t) (lasts (n + 1 + size t) s u) (keys t) (keys u) (lasts-few (n + 1) s t) (lasts-few (n + 1 + size t) s u)
-lasts-few n s (res a t) = lasts-few (n + 1) (enclosed a n s) t
+lasts_few n s nil = omega arith
+lasts_few n s (pre a k t) = prefix_few k _ (holds t) (lasts (n + 1) s t) (keys t) (lasts_few (n + 1) s t)
+lasts_few n s (cho t u) = choice_few (holds t) (holds u) (lasts (n + 1) s t) (lasts (n + 1 + size t) s u) (keys t) (keys u) (lasts_few (n + 1) s t) (lasts_few (n + 1 + size t) s u)
+lasts_few n s (par t u) = choice_few false false (lasts (n + 1) s t) (lasts (n + 1 + size t) s u) (keys t) (keys u) (lasts_few (n + 1) s t) (lasts_few (n + 1 + size t) s u)
+lasts_few n s (res a t) = lasts_few (n + 1) (enclosed a n s) t
 
 -- what is noted of a node, from what is noted of its children
 abbrev pub arrays : Scopes → List ℕ → List Last → Lent
 arrays c a r = record { scopes = c; all = a; rows = r }
 
-pub noted-nil : (n k l : ℕ) (b : Lent) → Noted n nil k l b k l b
+pub noted_nil : (n k l : ℕ) (b : Lent) → Noted n nil k l b k l b
 unfolding keys lasts
-noted-nil n k l b = record {
-  same-scopes = refl;
-  noted-keys = sym (append-nil (take k b.all));
-  key-count = omega arith;
-  noted-lasts = sym (append-nil (take l b.rows));
-  last-count = omega arith;
+noted_nil n k l b = record {
+  same_scopes = refl;
+  noted_keys = sym (append-nil (take k b.all));
+  key_count = omega arith;
+  noted_lasts = sym (append-nil (take l b.rows));
+  last_count = omega arith;
 }
 
 module _ (s : List ℕ) (at kind n k l : ℕ) (c : Scopes) (all : List ℕ) (rs : List Last) (h : l ≤ length rs) (all₁ : List ℕ) (r : Entered) (t : Term) where
-  own-prefix : (c₂ : Scopes) (all₂ : List ℕ) (rs₂ rs₃ : List Last) (k₂ l₂ l₃ : ℕ) → kind ≡ 1 → take r.keys all₁ ≡ take k all ++ done (key-at s at) [] → r.keys ≡ k + length (done (key-at s at) [])
+  own_prefix : (c₂ : Scopes) (all₂ : List ℕ) (rs₂ rs₃ : List Last) (k₂ l₂ l₃ : ℕ) → kind ≡ 1 → take r.keys all₁ ≡ take k all ++ done (key_standing_at s at) [] → r.keys ≡ k + length (done (key_standing_at s at) [])
       → Noted (n + 1) t r.keys l (arrays c all₁ rs) k₂ l₂ (arrays c₂ all₂ rs₂) → OverPrefix s at r.keys k₂ l l₂ rs₂ c l₃ rs₃
-      → Noted n (pre (name-at s at) (key-at s at) t) k l (arrays c all rs) k₂ l₃ (arrays c₂ all₂ rs₃)
+      → Noted n (pre (name_at s at) (key_standing_at s at) t) k l (arrays c all rs) k₂ l₃ (arrays c₂ all₂ rs₃)
   unfolding keys lasts
-  own-prefix c₂ all₂ rs₂ rs₃ k₂ l₂ l₃ q e f N O = let w = O (take l rs) (lasts (n + 1) c t) (length-take-le l rs h) N.last-count N.noted-lasts in
-      let g : holds t ≡ not (eqb k₂ r.keys) = holds-counted t r.keys k₂ N.key-count in record {
-        same-scopes = N.same-scopes;
-        noted-keys = N.noted-keys ∙ rw (e, append_assoc (take k all) (done (key-at s at) []) (keys t), ← done-front (key-at s at) (keys t));
-        key-count = rw (done-front (key-at s at) (keys t), length-append (done (key-at s at) []) (keys t)) (omega (arith, N.key-count));
-        noted-lasts = rw g w.0;
-        last-count = rw g w.1;
+  own_prefix c₂ all₂ rs₂ rs₃ k₂ l₂ l₃ q e f N O = let w = O (take l rs) (lasts (n + 1) c t) (length-take-le l rs h) N.last-count N.noted-lasts in
+      let g : holds t ≡ not (eqb k₂ r.keys) = holds_counted t r.keys k₂ N.key-count in record {
+        same_scopes = N.same-scopes;
+        noted_keys = N.noted-keys ∙ rw (e, append_assoc (take k all) (done (key_standing_at s at) []) (keys t), ← done_front (key_standing_at s at) (keys t));
+        key_count = rw (done_front (key_standing_at s at) (keys t), length-append (done (key_standing_at s at) []) (keys t)) (omega (arith, N.key-count));
+        noted_lasts = rw g w.0;
+        last_count = rw g w.1;
       }
 
-  pub noted-prefix : (c₁ c₂ : Scopes) (all₂ : List ℕ) (rs₂ rs₃ : List Last) (k₂ l₂ l₃ : ℕ) → kind ≡ 1 → Enters s at kind n k all all₁ c c₁ r
+  pub noted_prefix : (c₁ c₂ : Scopes) (all₂ : List ℕ) (rs₂ rs₃ : List Last) (k₂ l₂ l₃ : ℕ) → kind ≡ 1 → Enters s at kind n k all all₁ c c₁ r
       → Noted (n + 1) t r.keys l (arrays c₁ all₁ rs) k₂ l₂ (arrays c₂ all₂ rs₂) → OverPrefix s at r.keys k₂ l l₂ rs₂ c₂ l₃ rs₃
-      → Noted n (pre (name-at s at) (key-at s at) t) k l (arrays c all rs) k₂ l₃ (arrays c₂ all₂ rs₃)
-  noted-prefix c₁ c₂ all₂ rs₂ rs₃ k₂ l₂ l₃ q E N O = let e : c₁ ≡ c = E.unopened (λ z. omega arith) in
-      own-prefix c₂ all₂ rs₂ rs₃ k₂ l₂ l₃ q (E.noted q) (E.counted q)
+      → Noted n (pre (name_at s at) (key_standing_at s at) t) k l (arrays c all rs) k₂ l₃ (arrays c₂ all₂ rs₃)
+  noted_prefix c₁ c₂ all₂ rs₂ rs₃ k₂ l₂ l₃ q E N O = let e : c₁ ≡ c = E.unopened (λ z. omega arith) in
+      own_prefix c₂ all₂ rs₂ rs₃ k₂ l₂ l₃ q (E.noted q) (E.counted q)
       (subst (λ (x : Scopes). Noted (n + 1) t r.keys l (arrays x all₁ rs) k₂ l₂ (arrays c₂ all₂ rs₂)) e N)
       (subst (λ (x : Scopes). OverPrefix s at r.keys k₂ l l₂ rs₂ x l₃ rs₃) (N.same-scopes ∙ e) O)
 
-  pub noted-restriction : (c₁ c₂ c₃ : Scopes) (all₂ : List ℕ) (rs₂ : List Last) (k₂ l₂ : ℕ) → kind ≡ 4 → Enters s at kind n k all all₁ c c₁ r
-      → Noted (n + 1) t r.keys l (arrays c₁ all₁ rs) k₂ l₂ (arrays c₂ all₂ rs₂) → c₃ ≡ closed (name-at s at) r.scope c₂
-      → Noted n (res (name-at s at) t) k l (arrays c all rs) k₂ l₂ (arrays c₃ all₂ rs₂)
+  pub noted_restriction : (c₁ c₂ c₃ : Scopes) (all₂ : List ℕ) (rs₂ : List Last) (k₂ l₂ : ℕ) → kind ≡ 4 → Enters s at kind n k all all₁ c c₁ r
+      → Noted (n + 1) t r.keys l (arrays c₁ all₁ rs) k₂ l₂ (arrays c₂ all₂ rs₂) → c₃ ≡ closed (name_at s at) r.scope c₂
+      → Noted n (res (name_at s at) t) k l (arrays c all rs) k₂ l₂ (arrays c₃ all₂ rs₂)
   unfolding keys lasts
-  noted-restriction c₁ c₂ c₃ all₂ rs₂ k₂ l₂ q E N f = let o = E.other (λ z. omega arith) in let e = E.opened q in record {
-    same-scopes = f ∙ rw (N.same-scopes, e.0, e.1, set-set c (slot (name-at s at)) (n + 1) (scope_of c (name-at s at)), set-get_or c (slot (name-at s at)) 0);
-    noted-keys = rw (o.0, o.1) at N.noted-keys;
-    key-count = rw o.0 at N.key-count;
-    noted-lasts = rw e.0 at N.noted-lasts;
-    last-count = rw e.0 at N.last-count;
+  noted_restriction c₁ c₂ c₃ all₂ rs₂ k₂ l₂ q E N f = let o = E.other (λ z. omega arith) in let e = E.opened q in record {
+    same_scopes = f ∙ rw (N.same-scopes, e.0, e.1, set-set c (slot (name_at s at)) (n + 1) (scope_of c (name_at s at)), set-get_or c (slot (name_at s at)) 0);
+    noted_keys = rw (o.0, o.1) at N.noted-keys;
+    key_count = rw o.0 at N.key-count;
+    noted_lasts = rw e.0 at N.noted-lasts;
+    last_count = rw e.0 at N.last-count;
   }
 
 -- a parallel or a choice, whose sides are noted one after the other
 module _ (n k l k₁ l₁ k₂ l₂ : ℕ) (t u : Term) (b b₁ b₂ : Lent) (h : l ≤ length b.rows) (N : Noted (n + 1) t k l b k₁ l₁ b₁) (M : Noted (n + 1 + size t) u k₁ l₁ b₁ k₂ l₂ b₂) where
-  both-keys : take k₂ b₂.all ≡ take k b.all ++ (keys t ++ keys u)
-  both-keys = M.noted-keys ∙ rw (N.noted-keys, append_assoc (take k b.all) (keys t) (keys u))
+  both_keys : take k₂ b₂.all ≡ take k b.all ++ (keys t ++ keys u)
+  both_keys = M.noted-keys ∙ rw (N.noted-keys, append_assoc (take k b.all) (keys t) (keys u))
 
-  both-key-count : k₂ ≡ k + length (keys t ++ keys u)
-  both-key-count = rw (length-append (keys t) (keys u)) (omega (arith, N.key-count, M.key-count))
+  both_key_count : k₂ ≡ k + length (keys t ++ keys u)
+  both_key_count = rw (length-append (keys t) (keys u)) (omega (arith, N.key-count, M.key-count))
 
   abbrev x : List Last
   x = lasts (n + 1) b.scopes t
@@ -123,34 +123,34 @@ module _ (n k l k₁ l₁ k₂ l₂ : ℕ) (t u : Term) (b b₁ b₂ : Lent) (h 
   abbrev y : List Last
   y = lasts (n + 1 + size t) b.scopes u
 
-  both-lasts : take l₂ b₂.rows ≡ take l b.rows ++ (x ++ y)
-  both-lasts = M.noted-lasts ∙ rw (N.noted-lasts, N.same-scopes, append_assoc (take l b.rows) x y)
+  both_lasts : take l₂ b₂.rows ≡ take l b.rows ++ (x ++ y)
+  both_lasts = M.noted-lasts ∙ rw (N.noted-lasts, N.same-scopes, append_assoc (take l b.rows) x y)
 
-  both-last-count : l₂ ≡ l + length (x ++ y)
-  both-last-count = let e = rw N.same-scopes at M.last-count in rw (length-append x y) (omega (arith, N.last-count))
+  both_last_count : l₂ ≡ l + length (x ++ y)
+  both_last_count = let e = rw N.same-scopes at M.last-count in rw (length-append x y) (omega (arith, N.last-count))
 
-  pub noted-parallel : Noted n (par t u) k l b k₂ l₂ b₂
+  pub noted_parallel : Noted n (par t u) k l b k₂ l₂ b₂
   unfolding keys lasts
-  noted-parallel = record {
-    same-scopes = M.same-scopes ∙ N.same-scopes;
-    noted-keys = both-keys;
-    key-count = both-key-count;
-    noted-lasts = both-lasts;
-    last-count = both-last-count;
+  noted_parallel = record {
+    same_scopes = M.same-scopes ∙ N.same-scopes;
+    noted_keys = both_keys;
+    key_count = both_key_count;
+    noted_lasts = both_lasts;
+    last_count = both_last_count;
   }
 
-  choice-lasts : (f g : Bool) → eqb k₁ k ≡ f → eqb k₂ k₁ ≡ g → (l₃ : ℕ) → l₃ ≡ cond f l₂ (cond g l₂ l)
-      → (take l₃ b₂.rows ≡ take l b.rows ++ over-choice (not f) (not g) x y) × (l₃ ≡ l + length (over-choice (not f) (not g) x y))
-  choice-lasts true g p q l₃ e = (rw e both-lasts, e ∙ both-last-count)
-  choice-lasts false true p q l₃ e = (rw e both-lasts, e ∙ both-last-count)
-  choice-lasts false false p q l₃ e = (rw e (cut-back l l₂ b₂.rows (take l b.rows) (x ++ y) (length-take-le l b.rows h) (omega (arith, both-last-count)) both-lasts ∙ sym (append-nil (take l b.rows))), omega arith)
+  choice_lasts : (f g : Bool) → eqb k₁ k ≡ f → eqb k₂ k₁ ≡ g → (l₃ : ℕ) → l₃ ≡ cond f l₂ (cond g l₂ l)
+      → (take l₃ b₂.rows ≡ take l b.rows ++ last_over_choice (not f) (not g) x y) × (l₃ ≡ l + length (last_over_choice (not f) (not g) x y))
+  choice_lasts true g p q l₃ e = (rw e both_lasts, e ∙ both_last_count)
+  choice_lasts false true p q l₃ e = (rw e both_lasts, e ∙ both_last_count)
+  choice_lasts false false p q l₃ e = (rw e (cut_back l l₂ b₂.rows (take l b.rows) (x ++ y) (length-take-le l b.rows h) (omega (arith, both_last_count)) both_lasts ∙ sym (append-nil (take l b.rows))), omega arith)
 
-  pub noted-choice : (kind l₃ : ℕ) → kind ≡ 2 → l₃ ≡ over-two kind k k₁ k₂ l l₂ → Noted n (cho t u) k l b k₂ l₃ b₂
+  pub noted_choice : (kind l₃ : ℕ) → kind ≡ 2 → l₃ ≡ noted_over_two kind k k₁ k₂ l l₂ → Noted n (cho t u) k l b k₂ l₃ b₂
   unfolding keys lasts
-  noted-choice kind l₃ q e = let w = choice-lasts (eqb k₁ k) (eqb k₂ k₁) refl refl l₃ (rw (eq-eqb kind 2 q) at e) in record {
-    same-scopes = M.same-scopes ∙ N.same-scopes;
-    noted-keys = both-keys;
-    key-count = both-key-count;
-    noted-lasts = rw (holds-counted t k k₁ N.key-count, holds-counted u k₁ k₂ M.key-count) w.0;
-    last-count = rw (holds-counted t k k₁ N.key-count, holds-counted u k₁ k₂ M.key-count) w.1;
+  noted_choice kind l₃ q e = let w = choice_lasts (eqb k₁ k) (eqb k₂ k₁) refl refl l₃ (rw (eq-eqb kind 2 q) at e) in record {
+    same_scopes = M.same-scopes ∙ N.same-scopes;
+    noted_keys = both_keys;
+    key_count = both_key_count;
+    noted_lasts = rw (holds_counted t k k₁ N.key-count, holds_counted u k₁ k₂ M.key-count) w.0;
+    last_count = rw (holds_counted t k k₁ N.key-count, holds_counted u k₁ k₂ M.key-count) w.1;
   }

@@ -1,6 +1,6 @@
 // One pass over a record that reads it and notes, in lent arrays, its keys and the prefixes that can be the last to have been done.
 ghost use Rattle.std.specs.Prelude.{◌+◌, ◌≤◌};
-ghost use Rattle.format.specs.Limits.{node-limit};
+ghost use Rattle.format.specs.Limits.{node_limit};
 ghost use Rattle.gather.specs.Gather.{lent, Sized, Gathers};
 
 use noting::{close, enter, over_prefix, over_two};
@@ -29,7 +29,7 @@ pub fn gather(
     scope: &mut [u16; NODES],
     scopes: &mut [u16; NAMES],
 ) -> Outcome
-    requires left_bound { (keys + left ≤ node-limit) × (lasts ≤ keys) }
+    requires left_bound { (keys + left ≤ node_limit) × (lasts ≤ keys) }
     requires sized { Sized scopes.old all.old key.old action.old scope.old }
     ensures { Gathers s.now at deep left keys lasts (lent scopes.old all.old key.old action.old scope.old) result (lent scopes.new all.new key.new action.new scope.new) (Sized scopes.new all.new key.new action.new scope.new) }
 {

@@ -11,12 +11,12 @@ use Rattle.shared.specs.declared.Number.TheVariants as number
 use Rattle.index.specs.Whole.{Rows, Indexes}
 
 module _ (s F A E : List ℕ) (r : Number) (I : Indexes s F A E r) where
-  pub index-refused : (c : ℕ) → r ≡ number.Refused c → Refuses s c
-  index-refused c e = subst (Indexes s F A E) e I
+  pub index_refused : (c : ℕ) → r ≡ number.Refused c → Refuses s c
+  index_refused c e = subst (Indexes s F A E) e I
 
-  pub index-filled : (n : ℕ) → r ≡ number.Is n → (t : Term) × Reads s t × Rows t n F A E
-  index-filled n e = subst (Indexes s F A E) e I
+  pub index_filled : (n : ℕ) → r ≡ number.Is n → (t : Term) × Reads s t × Rows t n F A E
+  index_filled n e = subst (Indexes s F A E) e I
 
 -- the whole term is the part that begins at node 0
-pub rows-part : {t : Term} {n : ℕ} {F A E : List ℕ} → Rows t n F A E → Part F A E 0 t
-rows-part R = record { lines = R.lines; range = R.fits.range; nodes = omega (arith, R.fits.nodes) }
+pub rows_part : {t : Term} {n : ℕ} {F A E : List ℕ} → Rows t n F A E → Part F A E 0 t
+rows_part R = record { lines = R.lines; range = R.fits.range; nodes = omega (arith, R.fits.nodes) }

@@ -12,13 +12,13 @@ use lib.Seq.{get_or-set_same, get_or-set_other}
 use Rattle.ccsk.specs.Term.{Term, Key, Node}
 use Rattle.format.specs.Encode.{Bytes}
 use Rattle.format.specs.Flat.{Due, key_at, after}
-use Rattle.format.specs.Kinds.{bodyLength}
-use Rattle.format.specs.Limits.{node-limit, depth-limit}
-use Rattle.format.proofs.Flat.{kind-here, key_here, arg-within, arg-here, due-after, all-due, some-due, none-due}
+use Rattle.format.specs.Kinds.{length_of_body}
+use Rattle.format.specs.Limits.{node_limit, depth_limit}
+use Rattle.format.proofs.Flat.{kind_here, key_here, arg_within, arg_here, due_after, all_due, some_due, none_due}
 use Rattle.keys.specs.Gather.{RecordOf}
 use Rattle.keys.proofs.Reading.{was_read}
 use Rattle.reader.specs.Due.{Remains, Passed}
-use Rattle.reader.proofs.Due.{at-start, no-more-bytes}
+use Rattle.reader.proofs.Due.{at_start, no_more_bytes}
 use Rattle.shared.specs.declared.Number.TheVariants.{Is}
 use Rattle.index.specs.Lines.{pending, Line, Lines, Notes}
 
@@ -34,35 +34,35 @@ line_kept i f a h l = record { some = l.some; kind = f ∙ l.kind; arg = λ z. a
 
 -- Up to the place `at` the bytes s were read and n lines were noted. If s is the record of t, they are those of its first n nodes.
 pub record Noting (s F A : List ℕ) (H : List Bool) (levels : List ℕ) (many at n : ℕ) : Type 0 where
-  pub remains : Remains s levels many (node-limit - n) at
-  pub room : (length F ≡ node-limit) × (length A ≡ node-limit) × (length H ≡ node-limit)
-  pub count : n ≤ node-limit
+  pub remains : Remains s levels many (node_limit - n) at
+  pub room : (length F ≡ node_limit) × (length A ≡ node_limit) × (length H ≡ node_limit)
+  pub count : n ≤ node_limit
   pub due : (t : Term) → RecordOf s t → Due s at (pending n t)
   pub lines : (t : Term) → RecordOf s t → Lines t n F A H
 
-pub start : (s F A : List ℕ) (H : List Bool) (levels : List ℕ) → length levels ≡ suc depth-limit → get_or levels 0 0 ≡ depth-limit
-    → (length F ≡ node-limit) × (length A ≡ node-limit) × (length H ≡ node-limit) → Noting s F A H levels 1 0 0
+pub start : (s F A : List ℕ) (H : List Bool) (levels : List ℕ) → length levels ≡ suc depth_limit → get_or levels 0 0 ≡ depth_limit
+    → (length F ≡ node_limit) × (length A ≡ node_limit) × (length H ≡ node_limit) → Noting s F A H levels 1 0 0
 unfolding pending
 start s F A H levels l d L =
-    record { remains = at-start s levels l d; room = L; count = omega arith; due = λ t R. all-due s t R.bytes; lines = λ t R i h. absurd (omega arith) }
+    record { remains = at_start s levels l d; room = L; count = omega arith; due = λ t R. all_due s t R.bytes; lines = λ t R i h. absurd (omega arith) }
 
 -- the next node is passed
 module _ {s F A : List ℕ} {H : List Bool} {levels : List ℕ} {many at n : ℕ} (P : Noting s F A H levels many at n) {kind children next : ℕ} {levels' : List ℕ}
-    (N : Passed s at (node-limit - n) many kind children next levels') {a : ℕ} (q : at + 1 < length s → a ≡ get_or s (at + 1) 0) {k : Key} (e : k ≡ key_at s at) where
+    (N : Passed s at (node_limit - n) many kind children next levels') {a : ℕ} (q : at + 1 < length s → a ≡ get_or s (at + 1) 0) {k : Key} (e : k ≡ key_at s at) where
   here : (t : Term) → RecordOf s t → Line (set F n (get_or s at 0)) (set A n a) (set H n (not (eqb k 0))) n (pending n t)
   here t R = record {
-    some = some-due s at (pending n t) N.inside (P.due t R);
-    kind = get_or-set_same F n _ 0 (omega arith) ∙ kind-here s at (pending n t) (P.due t R) N.inside;
-    arg = λ z. get_or-set_same A n a 0 (omega arith) ∙ q (arg-within s at (pending n t) (P.due t R) N.inside z) ∙ arg-here s at (pending n t) (P.due t R) N.inside z;
+    some = some_due s at (pending n t) N.inside (P.due t R);
+    kind = get_or-set_same F n _ 0 (omega arith) ∙ kind_here s at (pending n t) (P.due t R) N.inside;
+    arg = λ z. get_or-set_same A n a 0 (omega arith) ∙ q (arg_within s at (pending n t) (P.due t R) N.inside z) ∙ arg_here s at (pending n t) (P.due t R) N.inside z;
     done = rw (← key_here s at (pending n t) (P.due t R) N.inside, ← e) (get_or-set_same H n _ false (omega arith));
   }
 
   pub onward : Noting s (set F n (get_or s at 0)) (set A n a) (set H n (not (eqb k 0))) levels' (many - 1 + children) next (n + 1)
   onward = record {
-    remains = let z : node-limit - n - 1 ≡ node-limit - (n + 1) = omega arith in rw z at N.remains;
+    remains = let z : node_limit - n - 1 ≡ node_limit - (n + 1) = omega arith in rw z at N.remains;
     room = (simp length-set P.room.0, simp length-set P.room.1, simp length-set P.room.2);
     count = omega arith;
-    due = λ t R. let z : at + (1 + bodyLength kind) ≡ next = omega (arith, N.good.ends) in rw (pending_next n t, ← z) (due-after s at (pending n t) (P.due t R) N.inside kind N.good.byte);
+    due = λ t R. let z : at + (1 + length_of_body kind) ≡ next = omega (arith, N.good.ends) in rw (pending_next n t, ← z) (due_after s at (pending n t) (P.due t R) N.inside kind N.good.byte);
     lines = λ t R i h. pick t R i h (ℕ_discrete i n);
   }
     where
@@ -73,6 +73,6 @@ module _ {s F A : List ℕ} {H : List Bool} {levels : List ℕ} {many at n : ℕ
 -- everything was read
 pub noted : {s F A : List ℕ} {H : List Bool} {levels : List ℕ} {many at n : ℕ} → Noting s F A H levels many at n → many ≡ 0 → length s ≤ at → Bytes s → Notes s F A H (Is n)
 noted {s} {levels = levels} {many} {at} {n} P z h B =
-    let left = node-limit - n in
-    let w = was_read s (Is (node-limit - left)) (no-more-bytes s levels many left at P.remains z B h) B (node-limit - left) refl in
-    (w.0, w.1, record { lines = P.lines w.0 w.1; last = none-due s at (pending n w.0) h (P.due w.0 w.1); few = P.count })
+    let left = node_limit - n in
+    let w = was_read s (Is (node_limit - left)) (no_more_bytes s levels many left at P.remains z B h) B (node_limit - left) refl in
+    (w.0, w.1, record { lines = P.lines w.0 w.1; last = none_due s at (pending n w.0) h (P.due w.0 w.1); few = P.count })

@@ -10,11 +10,11 @@ use lib.Dec.{eqb}
 use lib.ListN.{length, get_or, set}
 use lib.Seq.{get_or-set_same, get_or-set_other}
 use Rattle.ccsk.specs.Term.{Term, Key, Node, nil, pre, cho, par, res, size}
-use Rattle.format.specs.Flat.{after, headKind, headKey, headArg}
-use Rattle.format.specs.Limits.{node-limit}
+use Rattle.format.specs.Flat.{after, head_kind, head_key, head_arg}
+use Rattle.format.specs.Limits.{node_limit}
 use Rattle.moves.specs.Move.{holds}
-use Rattle.offers.specs.Forms.{prefix-form, choice-form, Laid}
-use Rattle.ccsk.proofs.Basic.{size-pos}
+use Rattle.offers.specs.Forms.{prefix_form, form_of_choice, Laid}
+use Rattle.ccsk.proofs.Basic.{size_pos}
 use Rattle.index.specs.Lines.{pending, Line, Lines, Noted, form_of, holds_of, end_of}
 use Rattle.index.proofs.Noting.{pending_next, line_kept}
 
@@ -25,56 +25,56 @@ module _ (F A E : List ℕ) (H : List Bool) (n : Node) where
   LaidAll k (t ∷ ts) = Laid F A E k t × (get_or E k 0 ≡ k + size t) × (get_or H k false ≡ holds t) × LaidAll (k + size t) ts
 
   -- they begin before node n, or there
-  laid-within : (k : Node) (ts : List Term) → LaidAll k ts → k ≤ n
-  laid-within k [] L = omega (arith, L)
-  laid-within k (t ∷ ts) L = omega (arith, laid-within (k + size t) ts L.3)
+  laid_within : (k : Node) (ts : List Term) → LaidAll k ts → k ≤ n
+  laid_within k [] L = omega (arith, L)
+  laid_within k (t ∷ ts) L = omega (arith, laid_within (k + size t) ts L.3)
 
 -- the form of a prefix, by whether it is done
-form-done : (k : Key) (b : Bool) → cond (not (eqb k 0)) 2 (cond b 0 1) ≡ prefix-form k b
-form-done zero true = refl
-form-done zero false = refl
-form-done (suc k) b = rw (ne_eqb (suc k) 0 (λ q. omega arith))
+form_done : (k : Key) (b : Bool) → cond (not (eqb k 0)) 2 (cond b 0 1) ≡ prefix_form k b
+form_done zero true = refl
+form_done zero false = refl
+form_done (suc k) b = rw (ne_eqb (suc k) 0 (λ q. omega arith))
 
 -- What is written at node i, by the rows as they stand: `end` and `held` were written at the next node, and w is `end` again.
 pub record Written (F E : List ℕ) (H : List Bool) (i next end w : Node) (held : Bool) (f e : ℕ) (h : Bool) : Type 0 where
-  pub form : f ≡ form_of (eqb (get_or F i 0) 0) (eqb (get_or F i 0) 2) (eqb (get_or F i 0) 2 || eqb (get_or F i 0) 3) (eqb (get_or F i 0) 4) (choice-form held (get_or H (w % node-limit) false)) (get_or H i false) held
-  pub keys : h ≡ holds_of (eqb (get_or F i 0) 0) (eqb (get_or F i 0) 2 || eqb (get_or F i 0) 3) (get_or H i false) held (get_or H (w % node-limit) false)
-  pub ends : e ≡ end_of (eqb (get_or F i 0) 0) (eqb (get_or F i 0) 2 || eqb (get_or F i 0) 3) next end (get_or E (w % node-limit) 0)
+  pub form : f ≡ form_of (eqb (get_or F i 0) 0) (eqb (get_or F i 0) 2) (eqb (get_or F i 0) 2 || eqb (get_or F i 0) 3) (eqb (get_or F i 0) 4) (form_of_choice held (get_or H (w % node_limit) false)) (get_or H i false) held
+  pub keys : h ≡ holds_of (eqb (get_or F i 0) 0) (eqb (get_or F i 0) 2 || eqb (get_or F i 0) 3) (get_or H i false) held (get_or H (w % node_limit) false)
+  pub ends : e ≡ end_of (eqb (get_or F i 0) 0) (eqb (get_or F i 0) 2 || eqb (get_or F i 0) 3) next end (get_or E (w % node_limit) 0)
 
 -- The line of node i is written, and those after it stay: what begins there is laid.
-module _ (A : List ℕ) (n : Node) (few : n ≤ node-limit) (F E : List ℕ) (H : List Bool) (i end : Node) (held : Bool)
+module _ (A : List ℕ) (n : Node) (few : n ≤ node_limit) (F E : List ℕ) (H : List Bool) (i end : Node) (held : Bool)
     (ahead : i + 1 < n → (end ≡ get_or E (i + 1) 0) × (held ≡ get_or H (i + 1) false)) (w : Node) (v : w ≡ end) (F' E' : List ℕ) (H' : List Bool)
     (W : Written F E H i (i + 1) end w held (get_or F' i 0) (get_or E' i 0) (get_or H' i false)) where
   first_part : (t : Term) (ts : List Term) → LaidAll F A E H n (i + 1) (t ∷ ts) → (end ≡ i + 1 + size t) × (held ≡ holds t)
-  first_part t ts L = let a = ahead (omega (arith, laid-within F A E H n (i + 1 + size t) ts L.3, size-pos t)) in (a.0 ∙ L.1, a.1 ∙ L.2)
+  first_part t ts L = let a = ahead (omega (arith, laid_within F A E H n (i + 1 + size t) ts L.3, size_pos t)) in (a.0 ∙ L.1, a.1 ∙ L.2)
 
-  second-part : (t u : Term) (ts : List Term) → LaidAll F A E H n (i + 1) (t ∷ (u ∷ ts))
-      → (get_or E (w % node-limit) 0 ≡ i + 1 + size t + size u) × (get_or H (w % node-limit) false ≡ holds u)
-  second-part t u ts L =
-      let q : w % node-limit ≡ i + 1 + size t = omega (arith, few, v, (first_part t (u ∷ ts) L).0, laid-within F A E H n (i + 1 + size t + size u) ts L.3.3, size-pos u) in
+  second_part_lem : (t u : Term) (ts : List Term) → LaidAll F A E H n (i + 1) (t ∷ (u ∷ ts))
+      → (get_or E (w % node_limit) 0 ≡ i + 1 + size t + size u) × (get_or H (w % node_limit) false ≡ holds u)
+  second_part_lem t u ts L =
+      let q : w % node_limit ≡ i + 1 + size t = omega (arith, few, v, (first_part t (u ∷ ts) L).0, laid_within F A E H n (i + 1 + size t + size u) ts L.3.3, size_pos u) in
       rw q (L.3.1, L.3.2)
 
   -- the part x ends at node k, and ts follow
-  with-line : (x : Term) (ts : List Term) (k : Node) → k ≡ i + size x → get_or E' i 0 ≡ k → get_or H' i false ≡ holds x → (get_or E' i 0 ≡ i + size x → Laid F' A E' i x)
+  with_line : (x : Term) (ts : List Term) (k : Node) → k ≡ i + size x → get_or E' i 0 ≡ k → get_or H' i false ≡ holds x → (get_or E' i 0 ≡ i + size x → Laid F' A E' i x)
       → LaidAll F' A E' H' n k ts → LaidAll F' A E' H' n i (x ∷ ts)
-  with-line x ts k z q b l L = (l (q ∙ z), q ∙ z, b, subst (λ (j : Node). LaidAll F' A E' H' n j ts) z L)
+  with_line x ts k z q b l L = (l (q ∙ z), q ∙ z, b, subst (λ (j : Node). LaidAll F' A E' H' n j ts) z L)
 
   -- by the kind of the node
   settled : (ts : List Term) → Line F A H i ts → LaidAll F A E H n (i + 1) (after ts) → LaidAll F' A E' H' n (i + 1) (after ts) → LaidAll F' A E' H' n i ts
-  unfolding after headKind headKey headArg size holds
+  unfolding after head_kind head_key head_arg size holds
   settled [] l L M = absurd (omega (arith, l.some))
-  settled (nil ∷ ts) l L M = with-line nil ts (i + 1) refl (rw l.kind at W.ends) (rw l.kind at W.keys) (λ y. (y, rw l.kind at W.form)) M
+  settled (nil ∷ ts) l L M = with_line nil ts (i + 1) refl (rw l.kind at W.ends) (rw l.kind at W.keys) (λ y. (y, rw l.kind at W.form)) M
   settled (pre a k t ∷ ts) l L M =
-      let p = first_part t ts L in with-line (pre a k t) ts (i + 1 + size t) (omega arith) (rw (l.kind, p.0) at W.ends) (rw (l.kind, l.done, p.1) at W.keys)
-      (λ y. (y, (rw (l.kind, l.done, p.1) at W.form) ∙ form-done k (holds t), l.arg (omega arith), M.0)) M.3
+      let p = first_part t ts L in with_line (pre a k t) ts (i + 1 + size t) (omega arith) (rw (l.kind, p.0) at W.ends) (rw (l.kind, l.done, p.1) at W.keys)
+      (λ y. (y, (rw (l.kind, l.done, p.1) at W.form) ∙ form_done k (holds t), l.arg (omega arith), M.0)) M.3
   settled (cho t u ∷ ts) l L M =
-      let p = first_part t (u ∷ ts) L in let q = second-part t u ts L in with-line (cho t u) ts (i + 1 + size t + size u) (omega arith) ((rw l.kind at W.ends) ∙ q.0) (rw (l.kind, p.1, q.1) at W.keys)
+      let p = first_part t (u ∷ ts) L in let q = second_part_lem t u ts L in with_line (cho t u) ts (i + 1 + size t + size u) (omega arith) ((rw l.kind at W.ends) ∙ q.0) (rw (l.kind, p.1, q.1) at W.keys)
       (λ y. (y, rw (l.kind, p.1, q.1) at W.form, M.0, M.3.0)) M.3.3
   settled (par t u ∷ ts) l L M =
-      let p = first_part t (u ∷ ts) L in let q = second-part t u ts L in with-line (par t u) ts (i + 1 + size t + size u) (omega arith) ((rw l.kind at W.ends) ∙ q.0) (rw (l.kind, p.1, q.1) at W.keys)
+      let p = first_part t (u ∷ ts) L in let q = second_part_lem t u ts L in with_line (par t u) ts (i + 1 + size t + size u) (omega arith) ((rw l.kind at W.ends) ∙ q.0) (rw (l.kind, p.1, q.1) at W.keys)
       (λ y. (y, rw l.kind at W.form, M.0, M.3.0)) M.3.3
   settled (res a t ∷ ts) l L M =
-      let p = first_part t ts L in with-line (res a t) ts (i + 1 + size t) (omega arith) (rw (l.kind, p.0) at W.ends) (rw (l.kind, l.done, p.1) at W.keys)
+      let p = first_part t ts L in with_line (res a t) ts (i + 1 + size t) (omega arith) (rw (l.kind, p.0) at W.ends) (rw (l.kind, l.done, p.1) at W.keys)
       (λ y. (y, rw l.kind at W.form, l.arg (omega arith), M.0)) M.3
 
 -- from node i on the rows are the same
@@ -83,7 +83,7 @@ Same i F E H F' E' H' = (j : Node) → i ≤ j → (get_or F' j 0 ≡ get_or F j
 
 -- The lines from node i to n are settled, in these rows and in all that are the same from there on; those before are as they were noted.
 pub record Settling (t : Term) (A : List ℕ) (n : Node) (F E : List ℕ) (H : List Bool) (i end : Node) (held : Bool) : Type 0 where
-  pub few : n ≤ node-limit
+  pub few : n ≤ node_limit
   pub lines : Lines t i F A H
   pub ahead : i < n → (end ≡ get_or E i 0) × (held ≡ get_or H i false)
   pub laid : (F' E' : List ℕ) (H' : List Bool) → Same i F E H F' E' H' → LaidAll F' A E' H' n i (pending i t)

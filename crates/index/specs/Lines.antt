@@ -1,9 +1,9 @@
 -- The lines of a record's nodes: as they are noted from the first node to the last, and as they are settled from the last to the first.
 use Rattle.std.specs.Prelude.{◌≡◌, List, [], ◌∷◌, Bool, false, not, cond, ◌||◌, ℕ, zero, suc, ◌≤◌, ◌<◌, eqb, length, get_or}
 use Rattle.ccsk.specs.Term.{Term, Node, size}
-use Rattle.format.specs.Flat.{after, headKind, headKey, headArg}
-use Rattle.format.specs.Kinds.{bodyLength}
-use Rattle.format.specs.Limits.{node-limit}
+use Rattle.format.specs.Flat.{after, head_kind, head_key, head_arg}
+use Rattle.format.specs.Kinds.{length_of_body}
+use Rattle.format.specs.Limits.{node_limit}
 use Rattle.format.specs.Read.{Refuses}
 use Rattle.keys.specs.Gather.{RecordOf}
 use Rattle.offers.specs.Forms.{Laid}
@@ -18,9 +18,9 @@ pending (suc i) t = after (pending i t)
 -- The line of node i, the first node of ts, as it is noted: its kind, its action or name where it has one, and whether it is done.
 pub record Line (F A : List ℕ) (H : List Bool) (i : Node) (ts : List Term) : Type 0 where
   pub some : 0 < length ts
-  pub kind : get_or F i 0 ≡ headKind ts
-  pub arg : 0 < bodyLength (headKind ts) → get_or A i 0 ≡ headArg ts
-  pub done : get_or H i false ≡ not (eqb (headKey ts) 0)
+  pub kind : get_or F i 0 ≡ head_kind ts
+  pub arg : 0 < length_of_body (head_kind ts) → get_or A i 0 ≡ head_arg ts
+  pub done : get_or H i false ≡ not (eqb (head_key ts) 0)
 
 -- the lines of the nodes before n are noted
 abbrev pub Lines : Term → Node → List ℕ → List ℕ → List Bool → Type 0
@@ -30,7 +30,7 @@ Lines t n F A H = (i : Node) → i < n → Line F A H i (pending i t)
 pub record Noted (t : Term) (n : Node) (F A : List ℕ) (H : List Bool) : Type 0 where
   pub lines : Lines t n F A H
   pub last : pending n t ≡ []
-  pub few : n ≤ node-limit
+  pub few : n ≤ node_limit
 
 -- what `note_all` answers
 abbrev pub Notes : List ℕ → List ℕ → List ℕ → List Bool → Number → Type 0

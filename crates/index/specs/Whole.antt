@@ -1,7 +1,7 @@
 -- The rows of a whole record.
 use Rattle.std.specs.Prelude.{◌≡◌, List, ℕ, length}
 use Rattle.ccsk.specs.Term.{Term, size}
-use Rattle.format.specs.Limits.{node-limit}
+use Rattle.format.specs.Limits.{node_limit}
 use Rattle.format.specs.Read.{Reads, Refuses}
 use Rattle.format.specs.Encode.{Fits}
 use Rattle.offers.specs.Forms.{Laid}
@@ -10,9 +10,9 @@ use Rattle.shared.specs.declared.Number.TheVariants.{Refused, Is}
 
 -- each row has room for all nodes
 pub record Room (F A E : List ℕ) : Type 0 where
-  pub forms : length F ≡ node-limit
-  pub args : length A ≡ node-limit
-  pub ends : length E ≡ node-limit
+  pub forms : length F ≡ node_limit
+  pub args : length A ≡ node_limit
+  pub ends : length E ≡ node_limit
 
 -- The rows are those of the term t, which has n nodes.
 pub record Rows (t : Term) (n : ℕ) (F A E : List ℕ) : Type 0 where

@@ -1,8 +1,8 @@
 // The rows of a record: for each node how a search goes on from it, its action or name, and where what begins there ends. Two loops fill
 // them: the record is read from the first node to the last, then forms and ends are settled from the last node to the first.
 ghost use Rattle.std.specs.Prelude.{◌≡◌, false, ◌+◌, ◌<◌, length, get_or, set};
-ghost use Rattle.format.specs.Limits.{node-limit};
-ghost use Rattle.offers.specs.Forms.{choice-form};
+ghost use Rattle.format.specs.Limits.{node_limit};
+ghost use Rattle.offers.specs.Forms.{form_of_choice};
 ghost use Rattle.index.specs.Lines.{Notes, form_of, holds_of, end_of, Notable, Settles};
 ghost use Rattle.index.specs.Whole.{Room, Indexes};
 
@@ -36,7 +36,7 @@ pub const HIDDEN: u8 = 6;
 
 // Where the second part of node n begins: behind what begins at the next node.
 pub fn second_part(n: usize, ends: &[u16; NODES]) -> usize
-    requires { (n + 1 < node-limit) × (length ends.now ≡ node-limit) }
+    requires { (n + 1 < node_limit) × (length ends.now ≡ node_limit) }
     ensures { result ≡ get_or ends.now (n + 1) 0 }
 {
     wide(ends[n + 1])
@@ -56,10 +56,10 @@ fn byte_after(bytes: &[u8], at: usize) -> u8
 
 // Writes of node i its kind or form, and whether it is done or holds a key.
 fn write(i: usize, form: u8, held: bool, forms: &mut [u8; NODES], holds: &mut [bool; NODES])
-    requires { i < node-limit }
+    requires { i < node_limit }
     ensures forms_after { forms.new ≡ set forms.old i form }
     ensures holds_after { holds.new ≡ set holds.old i held }
-    ensures i_lt_node_limit { i < node-limit }
+    ensures i_lt_node_limit { i < node_limit }
 {
     forms[i] = form;
     holds[i] = held;
@@ -73,9 +73,9 @@ fn note_all(
     args: &mut [u8; NODES],
     holds: &mut [bool; NODES],
 ) -> Number
-    requires { (length forms.old ≡ node-limit) × (length args.old ≡ node-limit) × (length holds.old ≡ node-limit) }
+    requires { (length forms.old ≡ node_limit) × (length args.old ≡ node_limit) × (length holds.old ≡ node_limit) }
     ensures notes { Notes bytes.now forms.new args.new holds.new result }
-    ensures forms_len { (length forms.new ≡ node-limit) × (length args.new ≡ node-limit) × (length holds.new ≡ node-limit) }
+    ensures forms_len { (length forms.new ≡ node_limit) × (length args.new ≡ node_limit) × (length holds.new ≡ node_limit) }
 {
     let mut due = [DEPTH; DUE];
     let mut many: usize = 1;
@@ -110,7 +110,7 @@ fn note_all(
 
 // The form of a choice, by which of its sides hold a key.
 fn choice_form(below: bool, beside: bool) -> u8
-    ensures { result ≡ choice-form below beside }
+    ensures { result ≡ form_of_choice below beside }
 {
     if below {
         if beside {
@@ -186,10 +186,10 @@ fn end_of(leaf: bool, two: bool, next: u16, end: u16, last: u16) -> u16
 // Settles the noted lines of n nodes, from the last to the first. `end` and `held` are what was written at the node settled before, where the
 // first part of node i begins. A node without a second part reads some line in its place and takes nothing from it.
 fn settle(n: usize, forms: &mut [u8; NODES], ends: &mut [u16; NODES], holds: &mut [bool; NODES])
-    requires forms_len { (length forms.old ≡ node-limit) × (length ends.old ≡ node-limit) × (length holds.old ≡ node-limit) }
+    requires forms_len { (length forms.old ≡ node_limit) × (length ends.old ≡ node_limit) × (length holds.old ≡ node_limit) }
     requires notable { Notable n forms.old holds.old }
     ensures settles { Settles n forms.old holds.old forms.new ends.new }
-    ensures forms_len_2 { (length forms.new ≡ node-limit) × (length ends.new ≡ node-limit) }
+    ensures forms_len_2 { (length forms.new ≡ node_limit) × (length ends.new ≡ node_limit) }
 {
     let mut i = n;
     let mut end: u16 = 0;

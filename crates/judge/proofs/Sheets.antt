@@ -7,16 +7,16 @@ use native.Mathlib.Omega.{arith}
 use lib.ListN.{length, get_or}
 use Rattle.ccsk.specs.Numbers.{In}
 use Rattle.ccsk.specs.Term.{Term, Key, Node, nil, pre, cho, par, res, size}
-use Rattle.causes.specs.Entry.{Entry, Scopes, under, open-scopes, marked, entries, all}
-use Rattle.causes.specs.Links.{key-column, renamed}
+use Rattle.causes.specs.Entry.{Entry, Scopes, under, open_scopes, marked, entries, all}
+use Rattle.causes.specs.Links.{key_column, renamed}
 use Rattle.causes.proofs.Renaming.{Known, all_known}
 use Rattle.causes.specs.Columns.{Faithful, Positive}
 use Rattle.lay.specs.Sheet.{column}
 use Rattle.lay.proofs.Columns.{column-length}
-use Rattle.lay.proofs.Whole.{entries-count}
+use Rattle.lay.proofs.Whole.{entries_count}
 use Rattle.pairs.specs.Rows.{table}
 use Rattle.slots.specs.Slot.{Renamed, Numberable, Numbered}
-use Rattle.ccsk.proofs.Lists.{getD-in}
+use Rattle.ccsk.proofs.Lists.{get_or_in}
 use Rattle.verdict.specs.Laid.{Laid}
 use Rattle.judge.specs.Judge.{Begun, Sheet, Slotted}
 
@@ -35,7 +35,7 @@ Stands e i = (e.row ≡ i) × (0 < e.key)
 
 sides : (n : Node) (i : ℕ) (up : Key) (s : Scopes) (t u : Term) → Each Stands i (entries (suc n) i up s t) → Each Stands (i + marked t) (entries (suc n + size t) (i + marked t) up s u)
     → Each Stands i (entries (suc n) i up s t ++ entries (suc n + size t) (i + marked t) up s u)
-sides n i up s t u p q = each_append Stands i (i + marked t) (entries (suc n) i up s t) (entries (suc n + size t) (i + marked t) up s u) (omega (arith, entries-count (suc n) i up s t)) p q
+sides n i up s t u p q = each_append Stands i (i + marked t) (entries (suc n) i up s t) (entries (suc n + size t) (i + marked t) up s u) (omega (arith, entries_count (suc n) i up s t)) p q
 
 stand : (n : Node) (i : ℕ) (up : Key) (s : Scopes) (t : Term) → Each Stands i (entries n i up s t)
 unfolding entries
@@ -46,10 +46,10 @@ stand n i up s (cho t u) = sides n i up s t u (stand (suc n) i up s t) (stand (s
 stand n i up s (par t u) = sides n i up s t u (stand (suc n) i up s t) (stand (suc n + size t) (i + marked t) up s u)
 stand n i up s (res a t) = stand (suc n) i up (under a n s) t
 
-column-keys : (l : List Entry) → column (λ e. e.key) l ≡ key-column l
-unfolding column key-column
-column-keys [] = refl
-column-keys (e ∷ l) = ap (λ (x : List ℕ). e.key ∷ x) (column-keys l)
+column_keys : (l : List Entry) → column (λ e. e.key) l ≡ key_column l
+unfolding column key_column
+column_keys [] = refl
+column_keys (e ∷ l) = ap (λ (x : List ℕ). e.key ∷ x) (column_keys l)
 
 positive : (j : ℕ) (l : List Entry) → Each Stands j l → Positive (column (λ e. e.key) l)
 unfolding column
@@ -57,38 +57,38 @@ positive j [] p i h = absurd (omega arith)
 positive j (e ∷ l) p zero h = p.0.1
 positive j (e ∷ l) p (suc i) h = positive (suc j) l p.1 i (omega arith)
 
-known-ups : (ks : List ℕ) (l : List Entry) → Known ks l → (i : ℕ) → i < length (column (λ e. e.up) l) → (get_or (column (λ e. e.up) l) i 0 ≡ 0) ⊎ In (get_or (column (λ e. e.up) l) i 0) ks
+known_ups : (ks : List ℕ) (l : List Entry) → Known ks l → (i : ℕ) → i < length (column (λ e. e.up) l) → (get_or (column (λ e. e.up) l) i 0 ≡ 0) ⊎ In (get_or (column (λ e. e.up) l) i 0) ks
 unfolding column
-known-ups ks [] p i h = absurd (omega arith)
-known-ups ks (e ∷ l) p zero h = p.0
-known-ups ks (e ∷ l) p (suc i) h = known-ups ks l p.1 i (omega arith)
+known_ups ks [] p i h = absurd (omega arith)
+known_ups ks (e ∷ l) p zero h = p.0
+known_ups ks (e ∷ l) p (suc i) h = known_ups ks l p.1 i (omega arith)
 
 -- the rest of a renamed column
 rest : (f : ℕ → ℕ) (a b : ℕ) (c c' : List ℕ) → Renamed f (a ∷ c) (b ∷ c') → Renamed f c c'
 rest f a b c c' r = (omega (arith, r.0), λ i h. r.1 (suc i) (omega arith))
 
 -- renamed columns are the renamed entries
-table-renamed : (f : ℕ → ℕ) (i : ℕ) (l : List Entry) (ks us : List ℕ) → Each Stands i l → Renamed f (column (λ e. e.key) l) ks → Renamed f (column (λ e. e.up) l) us
+table_renamed : (f : ℕ → ℕ) (i : ℕ) (l : List Entry) (ks us : List ℕ) → Each Stands i l → Renamed f (column (λ e. e.key) l) ks → Renamed f (column (λ e. e.up) l) us
     → table i ks (column (λ e. e.action) l) (column (λ e. e.end) l) (column (λ e. e.scope) l) us ≡ renamed f l
 unfolding table column renamed
-table-renamed f i [] [] us p q r = refl
-table-renamed f i [] (k ∷ ks) us p q r = absurd (omega (arith, q.0))
-table-renamed f i (e ∷ l) [] us p q r = absurd (omega (arith, q.0))
-table-renamed f i (e ∷ l) (k ∷ ks) [] p q r = absurd (omega (arith, r.0))
-table-renamed f i (e ∷ l) (k ∷ ks) (u ∷ us) p q r = let a : k ≡ f e.key = q.1 0 (omega arith) in let b : u ≡ f e.up = r.1 0 (omega arith) in
-    let z = table-renamed f (suc i) l ks us p.1 (rest f e.key k (column (λ e. e.key) l) ks q) (rest f e.up u (column (λ e. e.up) l) us r) in rw (a, b, p.0.0, z)
+table_renamed f i [] [] us p q r = refl
+table_renamed f i [] (k ∷ ks) us p q r = absurd (omega (arith, q.0))
+table_renamed f i (e ∷ l) [] us p q r = absurd (omega (arith, q.0))
+table_renamed f i (e ∷ l) (k ∷ ks) [] p q r = absurd (omega (arith, r.0))
+table_renamed f i (e ∷ l) (k ∷ ks) (u ∷ us) p q r = let a : k ≡ f e.key = q.1 0 (omega arith) in let b : u ≡ f e.up = r.1 0 (omega arith) in
+    let z = table_renamed f (suc i) l ks us p.1 (rest f e.key k (column (λ e. e.key) l) ks q) (rest f e.up u (column (λ e. e.up) l) us r) in rw (a, b, p.0.0, z)
 
 module _ (t : Term) (ks acs es ss us : List ℕ) (S : Sheet t ks acs es ss us) where
   pub numberable : Numberable ks us
   numberable = record {
-    keys = subst Positive (sym S.keys) (positive 0 (all t) (stand 0 0 0 open-scopes t));
-    ups = rw (S.ups, S.keys, column-keys (all t)) (known-ups (key-column (all t)) (all t) (all_known t));
+    keys = subst Positive (sym S.keys) (positive 0 (all t) (stand 0 0 0 open_scopes t));
+    ups = rw (S.ups, S.keys, column_keys (all t)) (known_ups (key_column (all t)) (all t) (all_known t));
     few = omega (arith, S.few);
   }
 
   module _ (ks' us' : List ℕ) (n : ℕ) (N : Numbered ks us ks' us' n) where
     rows : table 0 ks' acs es ss us' ≡ renamed N.name (all t)
-    rows = rw (S.actions, S.ends, S.scopes) (table-renamed N.name 0 (all t) ks' us' (stand 0 0 0 open-scopes t)
+    rows = rw (S.actions, S.ends, S.scopes) (table_renamed N.name 0 (all t) ks' us' (stand 0 0 0 open_scopes t)
         (subst (λ (x : List ℕ). Renamed N.name x ks') S.keys N.keys) (subst (λ (x : List ℕ). Renamed N.name x us') S.ups N.ups))
 
     long : (f : Entry → ℕ) (c : List ℕ) → c ≡ column f (all t) → length c ≡ length ks'
@@ -98,12 +98,12 @@ module _ (t : Term) (ks acs es ss us : List ℕ) (S : Sheet t ks acs es ss us) w
     laid = record {
       name = N.name;
       root = N.root;
-      faithful = subst (Faithful N.name) (S.keys ∙ column-keys (all t)) N.faithful;
+      faithful = subst (Faithful N.name) (S.keys ∙ column_keys (all t)) N.faithful;
       square = record { actions = long _ acs S.actions; ends = long _ es S.ends; scopes = long _ ss S.scopes; ups = N.ups.0 ∙ long _ us S.ups };
       rows = rows;
-      keys = λ i h. rw (N.keys.1 i (omega (arith, N.keys.0))) (N.faithful.keys (get_or ks i 0) (getD-in ks i (omega (arith, N.keys.0)))).1;
+      keys = λ i h. rw (N.keys.1 i (omega (arith, N.keys.0))) (N.faithful.keys (get_or ks i 0) (get_or_in ks i (omega (arith, N.keys.0)))).1;
       keys_below = N.keys_below;
-      ups-below = N.ups-below;
+      ups_below = N.ups-below;
       some = N.some;
       few = omega (arith, N.few, S.few);
     }

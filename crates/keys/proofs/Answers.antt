@@ -7,24 +7,24 @@ use Prim.Native.Nat.{ℕ, zero, suc, ◌<◌}
 use native.Mathlib.Omega.{arith}
 use Rattle.ccsk.specs.Numbers.{In}
 use Rattle.ccsk.specs.Term.{Term, Key, keys}
-use Rattle.ccsk.proofs.Lists.{distinct-length, least-free}
-use Rattle.ccsk.proofs.Keys.{keys-few}
+use Rattle.ccsk.proofs.Lists.{distinct-length, least_free_lem}
+use Rattle.ccsk.proofs.Keys.{keys_few}
 use Rattle.format.specs.Read.{Reads, Refuses}
 use Rattle.operations.specs.Ask as ask
 use Rattle.operations.specs.Change as change
 use Rattle.keyset.specs.Set.{member, added, Missing, LeastMissing}
-use Rattle.keyset.proofs.Sets.{added-same, added-other}
+use Rattle.keyset.proofs.Sets.{added_same, added_other}
 use Rattle.keyset.proofs.Steps.{within}
 use Rattle.shared.specs.declared.Number.{Number}
 use Rattle.shared.specs.declared.Number.TheVariants.{Refused, Is}
 use Rattle.shared.specs.Number.{refusal, value}
 use Rattle.keys.specs.Gather.{Scanned, Gathered, Cleared}
-use Rattle.keys.proofs.Marks.{not-both}
+use Rattle.keys.proofs.Marks.{not_both}
 
 -- the answer of `gather`, once its case is known
 module _ (s m : List ℕ) (r : Number) (G : Gathered s m r) where
-  pub gathered-refused : (c : ℕ) → r ≡ Refused c → Refuses s c
-  gathered-refused c e = subst (Gathered s m) e G
+  pub gathered_refused : (c : ℕ) → r ≡ Refused c → Refuses s c
+  gathered_refused c e = subst (Gathered s m) e G
 
   pub gathered : (n : ℕ) → r ≡ Is n → Scanned s m n
   gathered n e = subst (Gathered s m) e G
@@ -36,13 +36,13 @@ counted s m (Is n) g = rw g.count (ask.KeyCount.done g.whole.reads)
 module _ (s m : List ℕ) (n : ℕ) (S : Scanned s m n) where
   -- with 0 put in, a key above 0 is in the set if it stands in the record
   other : (k : Key) → k ≢ 0 → member (added m 0) k ≡ member m k
-  other k h = added-other m 0 k (omega (arith, S.holds.whole)) h
+  other k h = added_other m 0 k (omega (arith, S.holds.whole)) h
 
   -- the record has fewer keys than there are
-  pub some-missing : (m' : List ℕ) → m' ≡ added m 0 → Missing m'
-  some-missing m' e =
-      let f = least-free (keys S.of) in
-      let small : f.0 < 65536 = omega (arith, f.1, distinct-length (keys S.of), keys-few S.of, S.whole.fits.nodes) in
+  pub some_missing : (m' : List ℕ) → m' ≡ added m 0 → Missing m'
+  some_missing m' e =
+      let f = least_free_lem (keys S.of) in
+      let small : f.0 < 65536 = omega (arith, f.1, distinct-length (keys S.of), keys_few S.of, S.whole.fits.nodes) in
       rw e (f.0, small, other f.0 (λ z. omega (arith, f.2.pos, z)) ∙ absent f.0 small f.2.free)
     where
       absent : (k : Key) → k < 65536 → ¬ In k (keys S.of) → member m k ≡ false
@@ -60,17 +60,17 @@ module _ (s m : List ℕ) (n : ℕ) (S : Scanned s m n) where
   })
     where
       h : k < 65536
-      h = within m' k (some-missing m' e) L.least
+      h = within m' k (some_missing m' e) L.least
 
       pos : LeastMissing (added m 0) k → 0 < k
       pos L = above k refl
         where
           above : (j : ℕ) → k ≡ j → 0 < k
-          above zero q = absurd (not-both (added-same m 0 (omega (arith, S.holds.whole))) (rw q at L.missing))
+          above zero q = absurd (not_both (added_same m 0 (omega (arith, S.holds.whole))) (rw q at L.missing))
           above (suc j) q = omega arith
 
       free : LeastMissing (added m 0) k → ¬ In k (keys S.of)
-      free L i = not-both ((S.holds.exact k h).1 i) (sym (other k (λ z. omega (arith, pos L, z))) ∙ L.missing)
+      free L i = not_both ((S.holds.exact k h).1 i) (sym (other k (λ z. omega (arith, pos L, z))) ∙ L.missing)
 
       least : LeastMissing (added m 0) k → (j : ℕ) → 0 < j → j < k → In j (keys S.of)
       least L j p b = (S.holds.exact j (omega (arith, h))).0 (sym (other j (λ z. omega arith)) ∙ L.least j b)

@@ -4,7 +4,7 @@ use Rattle.ccsk.specs.Numbers.{In, distinct}
 use Rattle.ccsk.specs.Term.{Term, Key, keys, done, blank}
 use Rattle.format.specs.Read.{Reads, Refuses}
 use Rattle.format.specs.Encode.{encode, Fits}
-use Rattle.format.specs.Kinds.{bodyLength}
+use Rattle.format.specs.Kinds.{length_of_body}
 use Rattle.keyset.specs.Set.{member}
 use Rattle.shared.specs.declared.Number.{Number}
 use Rattle.shared.specs.declared.Number.TheVariants.{Refused, Is}
@@ -42,15 +42,15 @@ Gathered s m (Is n) = Scanned s m n
 
 -- where the node at a place ends, by the byte of kind there
 abbrev pub end_at : List ℕ → ℕ → ℕ
-end_at s at = at + (1 + bodyLength (get_or s at 0))
+end_at s at = at + (1 + length_of_body (get_or s at 0))
 
 -- the byte of kind at a place is a known one, and the bytes of that node are there
 abbrev pub Within : List ℕ → ℕ → Type 0
 Within s at = (get_or s at 0 ≤ 4) × (end_at s at ≤ length s)
 
 -- the bytes with key 0 at the node at a place, if it is a prefix
-abbrev pub clearedAt : List ℕ → ℕ → List ℕ
-clearedAt s at = cond (eqb (get_or s at 0) 1) (set (set s (at + 2) 0) (at + 3) 0) s
+abbrev pub cleared_at : List ℕ → ℕ → List ℕ
+cleared_at s at = cond (eqb (get_or s at 0) 1) (set (set s (at + 2) 0) (at + 3) 0) s
 
 -- The bytes s were the record of a term, and s' is the record of its blank form.
 abbrev pub Cleared : List ℕ → List ℕ → Type 0

@@ -6,8 +6,8 @@ ghost use Rattle.operations.specs.Ask.{KeyCount, FreeKey};
 ghost use Rattle.operations.specs.Change.{BlankForm};
 ghost use Rattle.shared.specs.Number.{refusal, value};
 ghost use Rattle.keyset.specs.Set.{member};
-ghost use Rattle.keys.specs.Erase.{erasedAt, Erased};
-ghost use Rattle.keys.specs.Gather.{Within, end_at, Readable, Holds, Marked, Scanned, Gathered, clearedAt, Cleared};
+ghost use Rattle.keys.specs.Erase.{erased_at, Erased};
+ghost use Rattle.keys.specs.Gather.{Within, end_at, Readable, Holds, Marked, Scanned, Gathered, cleared_at, Cleared};
 
 use keyset::BYTES;
 use reader::{body_length, other_length};
@@ -130,7 +130,7 @@ pub fn least_free(bytes: &[u8]) -> Number
 // Key 0 at the node at `at`, if it is a prefix. The caller has seen that the node's bytes are there.
 fn clear_at(bytes: &mut [u8], at: usize)
     requires { (at < length bytes.old) × (get_or bytes.old at 0 ≡ 1 → at + 3 < length bytes.old) }
-    ensures { bytes.new ≡ clearedAt bytes.old at }
+    ensures { bytes.new ≡ cleared_at bytes.old at }
 {
     if bytes[at] == PREFIX {
         bytes[at + 2] = 0;
@@ -141,7 +141,7 @@ fn clear_at(bytes: &mut [u8], at: usize)
 // Key 0 at the node at `at`, if its key is in the set. The caller has seen that the node's bytes are there.
 fn erase_at(bytes: &mut [u8], at: usize, marks: &[u8; BYTES])
     requires { (at < length bytes.old) × (get_or bytes.old at 0 ≡ 1 → at + 3 < length bytes.old) × (length marks.now ≡ 8192) }
-    ensures { bytes.new ≡ erasedAt (member marks.now (key_at bytes.old at)) bytes.old at }
+    ensures { bytes.new ≡ erased_at (member marks.now (key_at bytes.old at)) bytes.old at }
 {
     if keyset::has(marks, key_at(bytes, at)) {
         clear_at(bytes, at);
@@ -151,7 +151,7 @@ fn erase_at(bytes: &mut [u8], at: usize, marks: &[u8; BYTES])
 // The same, and answers where the next node begins.
 fn erase_past(bytes: &mut [u8], at: usize, marks: &[u8; BYTES]) -> usize
     requires { Within bytes.old at × (length marks.now ≡ 8192) }
-    ensures { (bytes.new ≡ erasedAt (member marks.now (key_at bytes.old at)) bytes.old at) × (result ≡ end_at bytes.old at) }
+    ensures { (bytes.new ≡ erased_at (member marks.now (key_at bytes.old at)) bytes.old at) × (result ≡ end_at bytes.old at) }
 {
     let kind = wide_byte(bytes[at]);
     if kind == reader::PREFIX {

@@ -26,51 +26,51 @@ bit_shifted (suc i) b =
     let z : suc i ≡ 1 + i = omega arith in
     ap (λ (n : ℕ). b / 2 ^ n % 2) z ∙ ap (λ (n : ℕ). n % 2) (sym (shr-shr b 1 i)) ∙ bit_shifted i (b / 2)
 
-pub bit-two : (i b : ℕ) → bit b i < 2
+pub bit_two : (i b : ℕ) → bit b i < 2
 unfolding bit
-bit-two zero b = omega arith
-bit-two (suc i) b = bit-two i (b / 2)
+bit_two zero b = omega arith
+bit_two (suc i) b = bit_two i (b / 2)
 
-half-sum : (b p : ℕ) → (b + 2 * p) / 2 ≡ b / 2 + p
-half-sum b p = omega arith
+half_sum : (b p : ℕ) → (b + 2 * p) / 2 ≡ b / 2 + p
+half_sum b p = omega arith
 
 pub bit-set : (i b : ℕ) → bit b i ≡ 0 → bit (b + power i) i ≡ 1
 unfolding bit power
 bit-set zero b e = omega arith
-bit-set (suc i) b e = rw (half-sum b (power i)) (bit-set i (b / 2) e)
+bit-set (suc i) b e = rw (half_sum b (power i)) (bit-set i (b / 2) e)
 
 pub bit_kept : (i j b : ℕ) → bit b i ≡ 0 → j ≢ i → bit (b + power i) j ≡ bit b j
 unfolding bit power
 bit_kept zero zero b e n = absurd (n refl)
 bit_kept zero (suc j) b e n = let h : (b + 1) / 2 ≡ b / 2 = omega arith in rw h
 bit_kept (suc i) zero b e n = omega arith
-bit_kept (suc i) (suc j) b e n = rw (half-sum b (power i)) (bit_kept i j (b / 2) e (λ q. n (ap suc q)))
+bit_kept (suc i) (suc j) b e n = rw (half_sum b (power i)) (bit_kept i j (b / 2) e (λ q. n (ap suc q)))
 
 -- a bit that is 0 fits in
-bit-fits : (n i b : ℕ) → i < n → b < power n → bit b i ≡ 0 → b + power i < power n
+bit_fits : (n i b : ℕ) → i < n → b < power n → bit b i ≡ 0 → b + power i < power n
 unfolding bit power
-bit-fits zero i b h l e = absurd (omega arith)
-bit-fits (suc n) zero b h l e = omega arith
-bit-fits (suc n) (suc i) b h l e = omega (arith, bit-fits n i (b / 2) (omega arith) (omega arith) e)
+bit_fits zero i b h l e = absurd (omega arith)
+bit_fits (suc n) zero b h l e = omega arith
+bit_fits (suc n) (suc i) b h l e = omega (arith, bit_fits n i (b / 2) (omega arith) (omega arith) e)
 
 pub byte_fits : (i b : ℕ) → i < 8 → b < 256 → bit b i ≡ 0 → b + power i < 256
 unfolding power
-byte_fits i b h l e = bit-fits 8 i b h l e
+byte_fits i b h l e = bit_fits 8 i b h l e
 
 -- a full byte has every bit
-pub full-bit : (i : ℕ) → i < 8 → bit 255 i ≡ 1
+pub full_bit : (i : ℕ) → i < 8 → bit 255 i ≡ 1
 unfolding bit
-full-bit zero h = refl
-full-bit (suc zero) h = refl
-full-bit (suc (suc zero)) h = refl
-full-bit (suc (suc (suc zero))) h = refl
-full-bit (suc (suc (suc (suc zero)))) h = refl
-full-bit (suc (suc (suc (suc (suc zero))))) h = refl
-full-bit (suc (suc (suc (suc (suc (suc zero)))))) h = refl
-full-bit (suc (suc (suc (suc (suc (suc (suc zero))))))) h = refl
-full-bit (suc (suc (suc (suc (suc (suc (suc (suc i)))))))) h = absurd (omega arith)
+full_bit zero h = refl
+full_bit (suc zero) h = refl
+full_bit (suc (suc zero)) h = refl
+full_bit (suc (suc (suc zero))) h = refl
+full_bit (suc (suc (suc (suc zero)))) h = refl
+full_bit (suc (suc (suc (suc (suc zero))))) h = refl
+full_bit (suc (suc (suc (suc (suc (suc zero)))))) h = refl
+full_bit (suc (suc (suc (suc (suc (suc (suc zero))))))) h = refl
+full_bit (suc (suc (suc (suc (suc (suc (suc (suc i)))))))) h = absurd (omega arith)
 
-pub empty-bit : (i : ℕ) → bit 0 i ≡ 0
+pub empty_bit : (i : ℕ) → bit 0 i ≡ 0
 unfolding bit
-empty-bit zero = refl
-empty-bit (suc i) = empty-bit i
+empty_bit zero = refl
+empty_bit (suc i) = empty_bit i

@@ -39,14 +39,14 @@ tick true k l = l ++ (k ∷ [])
 tick false k l = l
 
 -- the numbers below k that are in the set, ascending
-unfoldable pub membersBelow : List ℕ → ℕ → List ℕ
-membersBelow s zero = []
-membersBelow s (suc k) = tick (member s k) k (membersBelow s k)
+unfoldable pub members_below : List ℕ → ℕ → List ℕ
+members_below s zero = []
+members_below s (suc k) = tick (member s k) k (members_below s k)
 
 -- The n numbers below k that are in the set stand at the front of the row, which was `old` before.
 pub record Listed (s old : List ℕ) (k n : ℕ) (row : List ℕ) : Type 0 where
-  pub count : n ≡ length (membersBelow s k)
-  pub front : row ≡ membersBelow s k ++ drop n old
+  pub count : n ≡ length (members_below s k)
+  pub front : row ≡ members_below s k ++ drop n old
   pub whole : length row ≡ length old
 
 -- The list stands at the front of the row, and what lies past it stayed as it was.

@@ -1,6 +1,6 @@
 // A set of keys in a lent array: one bit a key. Helpers between crates; each asks that the array is whole.
 ghost use Rattle.std.specs.Prelude.{◌≡◌, List, ℕ, ◌+◌, ◌*◌, ◌<◌, ◌≤◌, eqb, length};
-ghost use Rattle.keyset.specs.Set.{bit, power, member, Added, Missing, LeastMissing, membersBelow, Listed, Fronted};
+ghost use Rattle.keyset.specs.Set.{bit, power, member, Added, Missing, LeastMissing, members_below, Listed, Fronted};
 
 use shared::wide;
 
@@ -69,8 +69,8 @@ pub fn least_missing(marks: &[u8; BYTES]) -> u16
 
 // Writes the numbers of byte i to the row, from place m on: the place after them. The caller has seen that the row is long enough.
 fn list_byte(marks: &[u8; BYTES], i: usize, m: usize, row: &mut [u16]) -> usize
-    requires marks_len { (length marks.now ≡ 8192) × (i < 8192) × (m ≡ length (membersBelow marks.now (i * 8))) }
-    requires marks_in_bounds { length (membersBelow marks.now 65536) ≤ length row.old }
+    requires marks_len { (length marks.now ≡ 8192) × (i < 8192) × (m ≡ length (members_below marks.now (i * 8))) }
+    requires marks_in_bounds { length (members_below marks.now 65536) ≤ length row.old }
     ensures { (old : List ℕ) → Listed marks.now old (i * 8) m row.old → Listed marks.now old (i * 8 + 8) result row.new }
 {
     let byte = marks[i];
@@ -92,8 +92,8 @@ fn list_byte(marks: &[u8; BYTES], i: usize, m: usize, row: &mut [u16]) -> usize
 // passed at once, and those after the last number are not looked at.
 pub fn list(marks: &[u8; BYTES], n: usize, row: &mut [u16])
     requires marks_len { length marks.now ≡ 8192 }
-    requires n_value { (n ≡ length (membersBelow marks.now 65536)) × (n ≤ length row.old) }
-    ensures { Fronted (membersBelow marks.now 65536) row.old row.new }
+    requires n_value { (n ≡ length (members_below marks.now 65536)) × (n ≤ length row.old) }
+    ensures { Fronted (members_below marks.now 65536) row.old row.new }
 {
     let mut i: usize = 0;
     let mut m: usize = 0;

@@ -8,7 +8,7 @@ use lib.ListN.{length, get_or, drop, replicate, length-append, get_or-replicate,
 use Rattle.ccsk.specs.Numbers.{AscendingFrom}
 use Rattle.format.specs.Encode.{Bytes}
 use Rattle.format.proofs.Unique.{encode-decode}
-use Rattle.format.proofs.Refusals.{decode-refusals}
+use Rattle.format.proofs.Refusals.{decode_refusals}
 use Rattle.operations.specs.Ask.{Filled, short, filled, UndoListing, UndoListing.unreadable, UndoListing.done}
 use Rattle.keys.specs.Gather.{Readable}
 use Rattle.labels.specs.Labels.{no_label, Rising, Unlabelled}
@@ -32,14 +32,14 @@ rising l x a = record {
   ascend = λ i j h g. rw (get_or-append l x 0 i (omega arith), get_or-append l x 0 j g) (ascending 0 l a i j h g);
 }
 
-row-rising : {l row row' : List ℕ} {r n : ℕ} → AscendingFrom 0 l → r ≡ 0 → Filled l row r n row' → Rising row' n × (n ≤ length row)
-row-rising {l} {row} a z (short h) = absurd (omega arith)
-row-rising {l} {row} a z (filled h) = (rising l (drop (length l) row) a, h)
+row_rising : {l row row' : List ℕ} {r n : ℕ} → AscendingFrom 0 l → r ≡ 0 → Filled l row r n row' → Rising row' n × (n ≤ length row)
+row_rising {l} {row} a z (short h) = absurd (omega arith)
+row_rising {l} {row} a z (filled h) = (rising l (drop (length l) row) a, h)
 
 -- The record is readable, its listed keys ascend, and there are no more than the row has places.
-pub listing-rising : {s row row' : List ℕ} {r n : ℕ} → Bytes s → r ≡ 0 → UndoListing s row r n row' → Readable s × Rising row' n × (n ≤ length row)
-listing-rising {s} B z (unreadable {c = c} e) = absurd (⊎_elim (λ y. omega arith) (λ y. omega arith) (decode-refusals s c e))
-listing-rising {s} B z (done {t = t} e L f) = let d = encode-decode s t B e in let p = row-rising L.0 z f in ((t, record { reads = e; bytes = d.0; fits = d.1 }), p.0, p.1)
+pub listing_rising : {s row row' : List ℕ} {r n : ℕ} → Bytes s → r ≡ 0 → UndoListing s row r n row' → Readable s × Rising row' n × (n ≤ length row)
+listing_rising {s} B z (unreadable {c = c} e) = absurd (⊎_elim (λ y. omega arith) (λ y. omega arith) (decode_refusals s c e))
+listing_rising {s} B z (done {t = t} e L f) = let d = encode-decode s t B e in let p = row_rising L.0 z f in ((t, record { reads = e; bytes = d.0; fits = d.1 }), p.0, p.1)
 
 -- an array laid out with `no_label` is without labels
 pub unlabelled : (k n : ℕ) → n ≤ k → Unlabelled n (replicate k no_label)

@@ -16,8 +16,8 @@ use Rattle.labels.specs.Labels.{no_label, joined, Rising, Parts, Noted}
 pub join_first : (l a : Label) → l ≡ no_label → a ≡ joined l a
 join_first l a e = rw (eq-eqb l no_label e)
 
-pub join-second : (l a : Label) → (l ≡ no_label → ⊥) → 0 ≡ joined l a
-join-second l a e = rw (ne_eqb l no_label e)
+pub join_second : (l a : Label) → (l ≡ no_label → ⊥) → 0 ≡ joined l a
+join_second l a e = rw (ne_eqb l no_label e)
 
 -- The numbers before the place `low` are below k, those from the place `high` on are not.
 pub record Between (row : List ℕ) (n : ℕ) (k : Key) (low high : ℕ) : Type 0 where
@@ -26,14 +26,14 @@ pub record Between (row : List ℕ) (n : ℕ) (k : Key) (low high : ℕ) : Type 
   pub under : (i : ℕ) → i < low → get_or row i 0 < k
   pub over : (i : ℕ) → high ≤ i → i < n → k ≤ get_or row i 0
 
-pub between-all : (row : List ℕ) (n : ℕ) (k : Key) → Between row n k 0 n
-between-all row n k = record { order = omega arith; within = omega arith; under = λ i h. absurd (omega arith); over = λ i h l. absurd (omega arith) }
+pub between_all : (row : List ℕ) (n : ℕ) (k : Key) → Between row n k 0 n
+between_all row n k = record { order = omega arith; within = omega arith; under = λ i h. absurd (omega arith); over = λ i h l. absurd (omega arith) }
 
 module _ (row : List ℕ) (n : ℕ) (k : Key) (R : Rising row n) (low high : ℕ) (B : Between row n k low high) where
   module _ (m : ℕ) (l : low ≤ m) (h : m < high) where
     -- the half after a number that is below k
-    pub between-right : get_or row m 0 < k → Between row n k (m + 1) high
-    between-right g = record { order = omega arith; within = B.within; under = λ i z. pick i z (ℕ_discrete i m); over = B.over }
+    pub between_right : get_or row m 0 < k → Between row n k (m + 1) high
+    between_right g = record { order = omega arith; within = B.within; under = λ i z. pick i z (ℕ_discrete i m); over = B.over }
       where
         pick : (i : ℕ) → i < m + 1 → Dec (i ≡ m) → get_or row i 0 < k
         pick i z (yes q) = rw q g
@@ -52,13 +52,13 @@ module _ (row : List ℕ) (n : ℕ) (k : Key) (R : Rising row n) (low high : ℕ
 
 module _ (row : List ℕ) (n : ℕ) (k : Key) (a : Label) (ls : List Label) (r : ℕ) (P : Parts row n k r) where
   -- the key is above the whole row
-  pub noted-past : n ≤ r → Noted row n k a ls ls
-  noted-past h = record { whole = refl; each = λ i l. rw (ne_eqb (get_or row i 0) k (λ e. omega (arith, P.low i (omega arith)))) }
+  pub noted_past : n ≤ r → Noted row n k a ls ls
+  noted_past h = record { whole = refl; each = λ i l. rw (ne_eqb (get_or row i 0) k (λ e. omega (arith, P.low i (omega arith)))) }
 
   module _ (R : Rising row n) (h : r < n) where
     -- another number stands at the key's place
-    pub noted-none : (get_or row r 0 ≡ k → ⊥) → Noted row n k a ls ls
-    noted-none z = record { whole = refl; each = λ i l. rw (ne_eqb (get_or row i 0) k (other i l)) }
+    pub noted_none : (get_or row r 0 ≡ k → ⊥) → Noted row n k a ls ls
+    noted_none z = record { whole = refl; each = λ i l. rw (ne_eqb (get_or row i 0) k (other i l)) }
       where
         pick : (i : ℕ) → i < n → get_or row i 0 ≡ k → Dec (i < r) → Dec (i ≡ r) → ⊥
         pick i l e (yes g) d = omega (arith, P.low i g)

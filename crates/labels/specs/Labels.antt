@@ -38,9 +38,9 @@ gathered l [] = l
 gathered l (a ∷ x) = gathered (joined l a) x
 
 -- the labels of the prefixes that hold the key m in several terms, from the left
-unfoldable pub labelsOf : Key → List Term → List Label
-labelsOf m [] = []
-labelsOf m (t ∷ ts) = labels m t ++ labelsOf m ts
+unfoldable pub labels_of : Key → List Term → List Label
+labels_of m [] = []
+labels_of m (t ∷ ts) = labels m t ++ labels_of m ts
 
 -- An action was joined to the label of the key k, and all others stayed.
 pub record Noted (row : List Key) (n : ℕ) (k : Key) (a : Label) (ls ls' : List Label) : Type 0 where
@@ -50,4 +50,4 @@ pub record Noted (row : List Key) (n : ℕ) (k : Key) (a : Label) (ls ls' : List
 -- The node at a place was passed: what is gathered after it, with what is due then, is what was gathered before it with what was due there.
 pub record Passes (s : List ℕ) (at : ℕ) (row : List Key) (n : ℕ) (ls ls' : List Label) : Type 0 where
   pub whole : length ls' ≡ length ls
-  pub each : (ts : List Term) → Due s at ts → (i : ℕ) → i < n → gathered (get_or ls' i 0) (labelsOf (get_or row i 0) (after ts)) ≡ gathered (get_or ls i 0) (labelsOf (get_or row i 0) ts)
+  pub each : (ts : List Term) → Due s at ts → (i : ℕ) → i < n → gathered (get_or ls' i 0) (labels_of (get_or row i 0) (after ts)) ≡ gathered (get_or ls i 0) (labels_of (get_or row i 0) ts)

@@ -1,7 +1,7 @@
 // The labels of the undos of a record, for all keys of a row in one pass over the record. Helpers between crates, with what each asks of
 // its caller.
 ghost use Rattle.std.specs.Prelude.{◌≡◌, ◌+◌, ◌<◌, ◌≤◌, length, get_or};
-ghost use Rattle.format.specs.Limits.{node-limit};
+ghost use Rattle.format.specs.Limits.{node_limit};
 ghost use Rattle.keys.specs.Gather.{Readable};
 ghost use Rattle.labels.specs.Labels.{joined, Rising, Parts, Noted, Passes, Unlabelled, UndoLabels};
 
@@ -40,7 +40,7 @@ fn join(label: u8, action: u8) -> u8
 // Joins the action to the label of the key, if the key stands in the row.
 fn note(row: &[u16], count: usize, key: u16, action: u8, labels: &mut [u8; NODES])
     requires rising { Rising row.now count }
-    requires count_le_node_limit { (count ≤ node-limit) × (length labels.old ≡ node-limit) }
+    requires count_le_node_limit { (count ≤ node_limit) × (length labels.old ≡ node_limit) }
     ensures { Noted row.now count key action labels.old labels.new }
 {
     let i = find(row, count, key);
@@ -55,7 +55,7 @@ fn note(row: &[u16], count: usize, key: u16, action: u8, labels: &mut [u8; NODES
 fn pass(bytes: &[u8], at: usize, row: &[u16], count: usize, labels: &mut [u8; NODES])
     requires at_in_bounds { (at < length bytes.now) × (get_or bytes.now at 0 ≡ 1 → at + 3 < length bytes.now) }
     requires rising { Rising row.now count }
-    requires count_le_node_limit { (count ≤ node-limit) × (length labels.old ≡ node-limit) }
+    requires count_le_node_limit { (count ≤ node_limit) × (length labels.old ≡ node_limit) }
     ensures { Passes bytes.now at row.now count labels.old labels.new }
 {
     let key = key_at(bytes, at);
@@ -70,8 +70,8 @@ fn pass(bytes: &[u8], at: usize, row: &[u16], count: usize, labels: &mut [u8; NO
 pub fn undo_labels(bytes: &[u8], row: &[u16], count: usize, labels: &mut [u8; NODES])
     requires readable { Readable bytes.now }
     requires rising { Rising row.now count }
-    requires count_le_node_limit { (count ≤ node-limit) × (length labels.old ≡ node-limit) × Unlabelled count labels.old }
-    ensures { (length labels.new ≡ node-limit) × UndoLabels bytes.now row.now count labels.new }
+    requires count_le_node_limit { (count ≤ node_limit) × (length labels.old ≡ node_limit) × Unlabelled count labels.old }
+    ensures { (length labels.new ≡ node_limit) × UndoLabels bytes.now row.now count labels.new }
 {
     let body = reader::BODY;
     let mut at: usize = 0;

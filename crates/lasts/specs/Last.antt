@@ -25,33 +25,33 @@ abbrev pub enclosed : Name → Node → Scopes → Scopes
 enclosed a n s = set s (slot a) (n + 1)
 
 -- no restriction above
-abbrev pub open-scopes : Scopes
-open-scopes = replicate 128 0
+abbrev pub open_scopes : Scopes
+open_scopes = replicate 128 0
 
 -- A prefix that is not done passes none; one that is done and has a key below passes those below; otherwise it is the last itself.
-abbrev pub over-prefix : Bool → Bool → Last → List Last → List Last
-over-prefix true below e x = []
-over-prefix false true e x = x
-over-prefix false false e x = e ∷ []
+abbrev pub last_over_prefix : Bool → Bool → Last → List Last → List Last
+last_over_prefix true below e x = []
+last_over_prefix false true e x = x
+last_over_prefix false false e x = e ∷ []
 
 -- A choice with keys on both sides passes none.
-abbrev pub over-choice : Bool → Bool → List Last → List Last → List Last
-over-choice true true x y = []
-over-choice true false x y = x ++ y
-over-choice false right x y = x ++ y
+abbrev pub last_over_choice : Bool → Bool → List Last → List Last → List Last
+last_over_choice true true x y = []
+last_over_choice true false x y = x ++ y
+last_over_choice false right x y = x ++ y
 
 -- The prefixes that hold a key, have no key below, and have only done prefixes and choices without a second keyed side above them,
 -- in a term whose root is node n, below the scopes s.
 unfoldable pub lasts : Node → Scopes → Term → List Last
 lasts n s nil = []
-lasts n s (pre a k t) = over-prefix (eqb k 0) (holds t) (record { key = k; action = a; scope = scope_of s a }) (lasts (n + 1) s t)
-lasts n s (cho t u) = over-choice (holds t) (holds u) (lasts (n + 1) s t) (lasts (n + 1 + size t) s u)
+lasts n s (pre a k t) = last_over_prefix (eqb k 0) (holds t) (record { key = k; action = a; scope = scope_of s a }) (lasts (n + 1) s t)
+lasts n s (cho t u) = last_over_choice (holds t) (holds u) (lasts (n + 1) s t) (lasts (n + 1 + size t) s u)
 lasts n s (par t u) = lasts (n + 1) s t ++ lasts (n + 1 + size t) s u
 lasts n s (res a t) = lasts (n + 1) (enclosed a n s) t
 
 -- all of a term
-abbrev pub all-lasts : Term → List Last
-all-lasts t = lasts 0 open-scopes t
+abbrev pub all_lasts : Term → List Last
+all_lasts t = lasts 0 open_scopes t
 
 -- one more in front, if the test holds
 abbrev pub keep : Bool → Last → List Last → List Last

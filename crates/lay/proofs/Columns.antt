@@ -25,18 +25,18 @@ unfolding column
 filled_none f i c = sym (append-nil (take i c))
 
 -- one part after the other
-pub filled-both : (f : Entry → ℕ) (i j k : ℕ) (a b c : List ℕ) (l m : List Entry) → Filled f i j a b l → Filled f j k b c m → Filled f i k a c (l ++ m)
-filled-both f i j k a b c l m p q = q ∙ rw (p, column-append f l m, append_assoc (take i a) (column f l) (column f m))
+pub filled_both : (f : Entry → ℕ) (i j k : ℕ) (a b c : List ℕ) (l m : List Entry) → Filled f i j a b l → Filled f j k b c m → Filled f i k a c (l ++ m)
+filled_both f i j k a b c l m p q = q ∙ rw (p, column-append f l m, append_assoc (take i a) (column f l) (column f m))
 
 -- an entry is written first, and then what follows it
-pub filled-first : (f : Entry → ℕ) (i j : ℕ) (c c' : List ℕ) (e : Entry) (l : List Entry) (v : ℕ) → i < length c → v ≡ f e → Filled f (i + 1) j (set c i v) c' l → Filled f i j c c' (e ∷ l)
+pub filled_first : (f : Entry → ℕ) (i j : ℕ) (c c' : List ℕ) (e : Entry) (l : List Entry) (v : ℕ) → i < length c → v ≡ f e → Filled f (i + 1) j (set c i v) c' l → Filled f i j c c' (e ∷ l)
 unfolding column
-filled-first f i j c c' e l v h q p = p ∙ rw (add-one i, take-suc-set c i v h, append_assoc (take i c) (v ∷ []) (column f l), q)
+filled_first f i j c c' e l v h q p = p ∙ rw (add-one i, take-suc-set c i v h, append_assoc (take i c) (v ∷ []) (column f l), q)
 
 -- an entry is written after what follows it
-pub filled-last : (f : Entry → ℕ) (i j : ℕ) (c c' : List ℕ) (e : Entry) (l : List Entry) (v : ℕ) → i < length c → i < j → v ≡ f e → Filled f (i + 1) j c c' l → Filled f i j c (set c' i v) (e ∷ l)
+pub filled_last : (f : Entry → ℕ) (i j : ℕ) (c c' : List ℕ) (e : Entry) (l : List Entry) (v : ℕ) → i < length c → i < j → v ≡ f e → Filled f (i + 1) j c c' l → Filled f i j c (set c' i v) (e ∷ l)
 unfolding column
-filled-last f i j c c' e l v h g q p = take-set-lt j c' i v g
+filled_last f i j c c' e l v h g q p = take-set-lt j c' i v g
     ∙ ap (λ (x : List ℕ). set x i v) before
     ∙ set_at (take i c) (get_or c i 0) (column f l) v i (length-take-le i c (omega arith))
     ∙ rw q

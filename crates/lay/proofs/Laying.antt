@@ -8,17 +8,17 @@ use native.Mathlib.Omega.{arith}
 use lib.ListN.{length, get_or, set, length-append, length-set}
 use lib.Seq.{set-set, set-get_or}
 use Rattle.ccsk.specs.Term.{Term, Key, nil, pre, cho, par, res, size}
-use Rattle.format.specs.Limits.{node-limit}
+use Rattle.format.specs.Limits.{node_limit}
 use Rattle.format.specs.Encode.{encode, InRange}
-use Rattle.format.specs.Kinds.{bodyLength}
-use Rattle.format.specs.Flat.{headKind, headKey, key_at}
+use Rattle.format.specs.Kinds.{length_of_body}
+use Rattle.format.specs.Flat.{head_kind, head_key, key_at}
 use Rattle.causes.specs.Entry.{Entry, Scopes, under, marked, entries}
 use Rattle.lay.specs.declared.Place.{Place}
 use Rattle.lay.specs.Sheet.{Sheet, Sized, Rows}
 use Rattle.lay.specs.Lay.{Here, Ready, Tells, Laid, Lays}
-use Rattle.lay.proofs.Columns.{filled_none, filled-both, filled-first, filled-last}
-use Rattle.lay.proofs.Scopes.{told, tells-told, tells-under}
-use Rattle.lay.proofs.Places.{due-past, action-after, name-after, root-kind, root-key, body_of, here-prefix, here-marked, here-restriction, here-choice, here-parallel}
+use Rattle.lay.proofs.Columns.{filled_none, filled_both, filled_first, filled_last}
+use Rattle.lay.proofs.Scopes.{told, tells_told, tells_under}
+use Rattle.lay.proofs.Places.{due_past, action_after, name_after, root_kind, root_key, body_of, here_prefix, here_marked, here_restriction, here_choice, here_parallel}
 
 rows_none : (i : ℕ) (x : Sheet) → Rows i i x x []
 rows_none i x = record {
@@ -32,11 +32,11 @@ rows_none i x = record {
 
 rows_both : (i j k : ℕ) (x y z : Sheet) (l m : List Entry) → Rows i j x y l → Rows j k y z m → Rows i k x z (l ++ m)
 rows_both i j k x y z l m p q = record {
-  keys = filled-both (λ e. e.key) i j k x.keys y.keys z.keys l m p.keys q.keys;
-  actions = filled-both (λ e. e.action) i j k x.actions y.actions z.actions l m p.actions q.actions;
-  ends = filled-both (λ e. e.end) i j k x.ends y.ends z.ends l m p.ends q.ends;
-  scopes = filled-both (λ e. e.scope) i j k x.scopes y.scopes z.scopes l m p.scopes q.scopes;
-  ups = filled-both (λ e. e.up) i j k x.ups y.ups z.ups l m p.ups q.ups;
+  keys = filled_both (λ e. e.key) i j k x.keys y.keys z.keys l m p.keys q.keys;
+  actions = filled_both (λ e. e.action) i j k x.actions y.actions z.actions l m p.actions q.actions;
+  ends = filled_both (λ e. e.end) i j k x.ends y.ends z.ends l m p.ends q.ends;
+  scopes = filled_both (λ e. e.scope) i j k x.scopes y.scopes z.scopes l m p.scopes q.scopes;
+  ups = filled_both (λ e. e.up) i j k x.ups y.ups z.ups l m p.ups q.ups;
   nearest = q.nearest ∙ p.nearest;
 }
 
@@ -52,28 +52,28 @@ ended x i e = record { keys = x.keys; actions = x.actions; ends = set x.ends i e
 abbrev pub renearest : Sheet → ℕ → ℕ → Sheet
 renearest x a v = record { keys = x.keys; actions = x.actions; ends = x.ends; scopes = x.scopes; ups = x.ups; nearest = set x.nearest a v }
 
-pub sized-noted : (x : Sheet) (i k a s u : ℕ) → Sized x → Sized (noted x i k a s u)
-sized-noted x i k a s u z = record { keys = length-set x.keys i k ∙ z.keys; actions = length-set x.actions i a ∙ z.actions; ends = z.ends; scopes = length-set x.scopes i s ∙ z.scopes; ups = length-set x.ups i u ∙ z.ups; nearest = z.nearest }
+pub sized_noted : (x : Sheet) (i k a s u : ℕ) → Sized x → Sized (noted x i k a s u)
+sized_noted x i k a s u z = record { keys = length-set x.keys i k ∙ z.keys; actions = length-set x.actions i a ∙ z.actions; ends = z.ends; scopes = length-set x.scopes i s ∙ z.scopes; ups = length-set x.ups i u ∙ z.ups; nearest = z.nearest }
 
-sized-ended : (x : Sheet) (i e : ℕ) → Sized x → Sized (ended x i e)
-sized-ended x i e z = record { keys = z.keys; actions = z.actions; ends = length-set x.ends i e ∙ z.ends; scopes = z.scopes; ups = z.ups; nearest = z.nearest }
+sized_ended : (x : Sheet) (i e : ℕ) → Sized x → Sized (ended x i e)
+sized_ended x i e z = record { keys = z.keys; actions = z.actions; ends = length-set x.ends i e ∙ z.ends; scopes = z.scopes; ups = z.ups; nearest = z.nearest }
 
-pub sized-renearest : (x : Sheet) (a v : ℕ) → Sized x → Sized (renearest x a v)
-sized-renearest x a v z = record { keys = z.keys; actions = z.actions; ends = z.ends; scopes = z.scopes; ups = z.ups; nearest = length-set x.nearest a v ∙ z.nearest }
+pub sized_renearest : (x : Sheet) (a v : ℕ) → Sized x → Sized (renearest x a v)
+sized_renearest x a v z = record { keys = z.keys; actions = z.actions; ends = z.ends; scopes = z.scopes; ups = z.ups; nearest = length-set x.nearest a v ∙ z.nearest }
 
-rows-one : (i j : ℕ) (x y : Sheet) (e : Entry) (l : List Entry) (k a s u v : ℕ) → Sized x → i < node-limit → i < j → k ≡ e.key → a ≡ e.action → s ≡ e.scope → u ≡ e.up → v ≡ e.end
+rows_one : (i j : ℕ) (x y : Sheet) (e : Entry) (l : List Entry) (k a s u v : ℕ) → Sized x → i < node_limit → i < j → k ≡ e.key → a ≡ e.action → s ≡ e.scope → u ≡ e.up → v ≡ e.end
     → Rows (i + 1) j (noted x i k a s u) y l → Rows i j x (ended y i v) (e ∷ l)
-rows-one i j x y e l k a s u v z h g p q r t w R = record {
-  keys = filled-first (λ e. e.key) i j x.keys y.keys e l k (omega (arith, z.keys)) p R.keys;
-  actions = filled-first (λ e. e.action) i j x.actions y.actions e l a (omega (arith, z.actions)) q R.actions;
-  ends = filled-last (λ e. e.end) i j x.ends y.ends e l v (omega (arith, z.ends)) g w R.ends;
-  scopes = filled-first (λ e. e.scope) i j x.scopes y.scopes e l s (omega (arith, z.scopes)) r R.scopes;
-  ups = filled-first (λ e. e.up) i j x.ups y.ups e l u (omega (arith, z.ups)) t R.ups;
+rows_one i j x y e l k a s u v z h g p q r t w R = record {
+  keys = filled_first (λ e. e.key) i j x.keys y.keys e l k (omega (arith, z.keys)) p R.keys;
+  actions = filled_first (λ e. e.action) i j x.actions y.actions e l a (omega (arith, z.actions)) q R.actions;
+  ends = filled_last (λ e. e.end) i j x.ends y.ends e l v (omega (arith, z.ends)) g w R.ends;
+  scopes = filled_first (λ e. e.scope) i j x.scopes y.scopes e l s (omega (arith, z.scopes)) r R.scopes;
+  ups = filled_first (λ e. e.up) i j x.ups y.ups e l u (omega (arith, z.ups)) t R.ups;
   nearest = R.nearest;
 }
 
-rows-closed : (i j : ℕ) (x y : Sheet) (l : List Entry) (a v o : ℕ) → o ≡ get_or x.nearest a 0 → Rows i j (renearest x a v) y l → Rows i j x (renearest y a o) l
-rows-closed i j x y l a v o e R = record {
+rows_closed : (i j : ℕ) (x y : Sheet) (l : List Entry) (a v o : ℕ) → o ≡ get_or x.nearest a 0 → Rows i j (renearest x a v) y l → Rows i j x (renearest y a o) l
+rows_closed i j x y l a v o e R = record {
   keys = R.keys;
   actions = R.actions;
   ends = R.ends;
@@ -82,107 +82,107 @@ rows-closed i j x y l a v o e R = record {
   nearest = rw (R.nearest, e) (set-set x.nearest a v (get_or x.nearest a 0) ∙ set-get_or x.nearest a 0);
 }
 
-module _ (s : List ℕ) (at node row kind : ℕ) (hk : kind ≡ get_or s at 0) (b : ℕ) (hb : b ≡ bodyLength kind) (up : Key) (x : Sheet) where
-  kind-of : (t : Term) (ts : List Term) → Here s at node row t ts → kind ≡ headKind (t ∷ ts)
-  kind-of t ts h = root-kind s at node row kind hk t ts h.due
+module _ (s : List ℕ) (at node row kind : ℕ) (hk : kind ≡ get_or s at 0) (b : ℕ) (hb : b ≡ length_of_body kind) (up : Key) (x : Sheet) where
+  kind_of_lem : (t : Term) (ts : List Term) → Here s at node row t ts → kind ≡ head_kind (t ∷ ts)
+  kind_of_lem t ts h = root_kind s at node row kind hk t ts h.due
 
-  body : (m : ℕ) → kind ≡ m → b ≡ bodyLength m
+  body : (m : ℕ) → kind ≡ m → b ≡ length_of_body m
   body = body_of s at node row kind hk b hb
 
-  pub lays-nil : kind ≡ 0 → Sized x → Lays s at node row up x (record { at = at + (1 + b); node = node + 1; row = row }) x
-  unfolding headKind encode size marked entries
-  lays-nil z w nil ts sc h g = record { after = omega (arith, body 0 (kind-of nil ts h)); node = refl; row = omega arith; rows = rows_none row x; sized = w }
-  lays-nil z w (pre a k t) ts sc h g = absurd (omega (arith, kind-of (pre a k t) ts h))
-  lays-nil z w (cho t u) ts sc h g = absurd (omega (arith, kind-of (cho t u) ts h))
-  lays-nil z w (par t u) ts sc h g = absurd (omega (arith, kind-of (par t u) ts h))
-  lays-nil z w (res a t) ts sc h g = absurd (omega (arith, kind-of (res a t) ts h))
+  pub lays_nil : kind ≡ 0 → Sized x → Lays s at node row up x (record { at = at + (1 + b); node = node + 1; row = row }) x
+  unfolding head_kind encode size marked entries
+  lays_nil z w nil ts sc h g = record { after = omega (arith, body 0 (kind_of_lem nil ts h)); node = refl; row = omega arith; rows = rows_none row x; sized = w }
+  lays_nil z w (pre a k t) ts sc h g = absurd (omega (arith, kind_of_lem (pre a k t) ts h))
+  lays_nil z w (cho t u) ts sc h g = absurd (omega (arith, kind_of_lem (cho t u) ts h))
+  lays_nil z w (par t u) ts sc h g = absurd (omega (arith, kind_of_lem (par t u) ts h))
+  lays_nil z w (res a t) ts sc h g = absurd (omega (arith, kind_of_lem (res a t) ts h))
 
   -- the entries of a child, whose node number is one more
-  at-child : (i : ℕ) (u : Key) (j : ℕ) (y z : Sheet) (sc : Scopes) (t : Term) → Rows i j y z (entries (node + 1) i u sc t) → Rows i j y z (entries (suc node) i u sc t)
-  at-child i u j y z sc t = subst (λ (v : ℕ). Rows i j y z (entries v i u sc t)) (add-one node)
+  at_child : (i : ℕ) (u : Key) (j : ℕ) (y z : Sheet) (sc : Scopes) (t : Term) → Rows i j y z (entries (node + 1) i u sc t) → Rows i j y z (entries (suc node) i u sc t)
+  at_child i u j y z sc t = subst (λ (v : ℕ). Rows i j y z (entries v i u sc t)) (add-one node)
 
   module _ (key : ℕ) (ek : key ≡ key_at s at) (q : kind ≡ 1) where
-    pub lays-unmarked : key ≡ 0 → (r : Place) (x' : Sheet) → Lays s (at + (1 + b)) (node + 1) row up x r x' → Lays s at node row up x r x'
-    unfolding headKind headKey encode size marked entries
-    lays-unmarked z r x' L nil ts sc h g = absurd (omega (arith, kind-of nil ts h))
-    lays-unmarked z r x' L (pre a zero t) ts sc h g = let w = L t ts sc (here-prefix s at node row kind hk b hb a zero t ts h) g in
-        record { after = omega (arith, w.after, body 1 q); node = omega (arith, w.node); row = w.row; rows = at-child row up r.row x x' sc t w.rows; sized = w.sized }
-    lays-unmarked z r x' L (pre a (suc k) t) ts sc h g = absurd (omega (arith, root-key s at node row kind hk (pre a (suc k) t) ts h.due))
-    lays-unmarked z r x' L (cho t u) ts sc h g = absurd (omega (arith, kind-of (cho t u) ts h))
-    lays-unmarked z r x' L (par t u) ts sc h g = absurd (omega (arith, kind-of (par t u) ts h))
-    lays-unmarked z r x' L (res a t) ts sc h g = absurd (omega (arith, kind-of (res a t) ts h))
+    pub lays_unmarked : key ≡ 0 → (r : Place) (x' : Sheet) → Lays s (at + (1 + b)) (node + 1) row up x r x' → Lays s at node row up x r x'
+    unfolding head_kind head_key encode size marked entries
+    lays_unmarked z r x' L nil ts sc h g = absurd (omega (arith, kind_of_lem nil ts h))
+    lays_unmarked z r x' L (pre a zero t) ts sc h g = let w = L t ts sc (here_prefix s at node row kind hk b hb a zero t ts h) g in
+        record { after = omega (arith, w.after, body 1 q); node = omega (arith, w.node); row = w.row; rows = at_child row up r.row x x' sc t w.rows; sized = w.sized }
+    lays_unmarked z r x' L (pre a (suc k) t) ts sc h g = absurd (omega (arith, root_key s at node row kind hk (pre a (suc k) t) ts h.due))
+    lays_unmarked z r x' L (cho t u) ts sc h g = absurd (omega (arith, kind_of_lem (cho t u) ts h))
+    lays_unmarked z r x' L (par t u) ts sc h g = absurd (omega (arith, kind_of_lem (par t u) ts h))
+    lays_unmarked z r x' L (res a t) ts sc h g = absurd (omega (arith, kind_of_lem (res a t) ts h))
 
-    pub lays-marked : key ≢ 0 → Sized x → (a : ℕ) → a ≡ get_or s (at + 1) 0 → (r : Place) (y : Sheet)
+    pub lays_marked : key ≢ 0 → Sized x → (a : ℕ) → a ≡ get_or s (at + 1) 0 → (r : Place) (y : Sheet)
         → Lays s (at + (1 + b)) (node + 1) (row + 1) key (noted x row key a (get_or x.nearest (a % 128) 0) up) r y → Lays s at node row up x r (ended y row r.row)
-    unfolding headKind headKey encode size marked entries
-    lays-marked z W l el r y L nil ts sc h g = absurd (omega (arith, kind-of nil ts h))
-    lays-marked z W l el r y L (pre a zero t) ts sc h g = absurd (z (ek ∙ root-key s at node row kind hk (pre a zero t) ts h.due))
-    lays-marked z W l el r y L (pre a (suc k) t) ts sc h g = let w = L t ts sc (here-marked s at node row kind hk b hb a k t ts h) g in
-        let e : key ≡ suc k = ek ∙ root-key s at node row kind hk (pre a (suc k) t) ts h.due in let f : l ≡ a = el ∙ action-after s at a (suc k) t ts h.due in
+    unfolding head_kind head_key encode size marked entries
+    lays_marked z W l el r y L nil ts sc h g = absurd (omega (arith, kind_of_lem nil ts h))
+    lays_marked z W l el r y L (pre a zero t) ts sc h g = absurd (z (ek ∙ root_key s at node row kind hk (pre a zero t) ts h.due))
+    lays_marked z W l el r y L (pre a (suc k) t) ts sc h g = let w = L t ts sc (here_marked s at node row kind hk b hb a k t ts h) g in
+        let e : key ≡ suc k = ek ∙ root_key s at node row kind hk (pre a (suc k) t) ts h.due in let f : l ≡ a = el ∙ action_after s at a (suc k) t ts h.due in
         record {
           after = omega (arith, w.after, body 1 q);
           node = omega (arith, w.node);
           row = omega (arith, w.row);
-          rows = rows-one row r.row x y _ _ key l (get_or x.nearest (l % 128) 0) up r.row W (omega (arith, h.room)) (omega (arith, w.row)) e f (rw f (sym (g a h.range.0 h.range.1))) refl (omega (arith, w.row))
+          rows = rows_one row r.row x y _ _ key l (get_or x.nearest (l % 128) 0) up r.row W (omega (arith, h.room)) (omega (arith, w.row)) e f (rw f (sym (g a h.range.0 h.range.1))) refl (omega (arith, w.row))
               (below e w.rows);
-          sized = sized-ended y row r.row w.sized;
+          sized = sized_ended y row r.row w.sized;
         }
       where
         below : key ≡ suc k → Rows (row + 1) r.row (noted x row key l (get_or x.nearest (l % 128) 0) up) y (entries (node + 1) (row + 1) key sc t)
             → Rows (row + 1) r.row (noted x row key l (get_or x.nearest (l % 128) 0) up) y (entries (suc node) (suc row) (suc k) sc t)
         below e R = rw (← e, ← add-one node, ← add-one row) R
-    lays-marked z W l el r y L (cho t u) ts sc h g = absurd (omega (arith, kind-of (cho t u) ts h))
-    lays-marked z W l el r y L (par t u) ts sc h g = absurd (omega (arith, kind-of (par t u) ts h))
-    lays-marked z W l el r y L (res a t) ts sc h g = absurd (omega (arith, kind-of (res a t) ts h))
+    lays_marked z W l el r y L (cho t u) ts sc h g = absurd (omega (arith, kind_of_lem (cho t u) ts h))
+    lays_marked z W l el r y L (par t u) ts sc h g = absurd (omega (arith, kind_of_lem (par t u) ts h))
+    lays_marked z W l el r y L (res a t) ts sc h g = absurd (omega (arith, kind_of_lem (res a t) ts h))
 
-  pub lays-restriction : kind ≡ 4 → Sized x → (a : ℕ) → a ≡ get_or s (at + 1) 0 % 128 → (o : ℕ) → o ≡ get_or x.nearest a 0 → (r : Place) (y : Sheet)
+  pub lays_restriction : kind ≡ 4 → Sized x → (a : ℕ) → a ≡ get_or s (at + 1) 0 % 128 → (o : ℕ) → o ≡ get_or x.nearest a 0 → (r : Place) (y : Sheet)
       → Lays s (at + (1 + b)) (node + 1) row up (renearest x a (node + 1)) r y → Lays s at node row up x r (renearest y a o)
-  unfolding headKind encode size marked entries
-  lays-restriction q W a ea o eo r y L nil ts sc h g = absurd (omega (arith, kind-of nil ts h))
-  lays-restriction q W a ea o eo r y L (pre l k t) ts sc h g = absurd (omega (arith, kind-of (pre l k t) ts h))
-  lays-restriction q W a ea o eo r y L (cho t u) ts sc h g = absurd (omega (arith, kind-of (cho t u) ts h))
-  lays-restriction q W a ea o eo r y L (par t u) ts sc h g = absurd (omega (arith, kind-of (par t u) ts h))
-  lays-restriction q W a ea o eo r y L (res l t) ts sc h g = let e : a ≡ l = omega (arith, ea, name-after s at l t ts h.due, h.range.0) in
-      let w = L t ts (under l node sc) (here-restriction s at node row kind hk b hb l t ts h) (below e) in
+  unfolding head_kind encode size marked entries
+  lays_restriction q W a ea o eo r y L nil ts sc h g = absurd (omega (arith, kind_of_lem nil ts h))
+  lays_restriction q W a ea o eo r y L (pre l k t) ts sc h g = absurd (omega (arith, kind_of_lem (pre l k t) ts h))
+  lays_restriction q W a ea o eo r y L (cho t u) ts sc h g = absurd (omega (arith, kind_of_lem (cho t u) ts h))
+  lays_restriction q W a ea o eo r y L (par t u) ts sc h g = absurd (omega (arith, kind_of_lem (par t u) ts h))
+  lays_restriction q W a ea o eo r y L (res l t) ts sc h g = let e : a ≡ l = omega (arith, ea, name_after s at l t ts h.due, h.range.0) in
+      let w = L t ts (under l node sc) (here_restriction s at node row kind hk b hb l t ts h) (below e) in
       record {
         after = omega (arith, w.after, body 4 q);
         node = omega (arith, w.node);
         row = w.row;
-        rows = rows-closed row r.row x y _ a (node + 1) o eo (at-child row up r.row (renearest x a (node + 1)) y (under l node sc) t w.rows);
-        sized = sized-renearest y a o w.sized;
+        rows = rows_closed row r.row x y _ a (node + 1) o eo (at_child row up r.row (renearest x a (node + 1)) y (under l node sc) t w.rows);
+        sized = sized_renearest y a o w.sized;
       }
     where
       below : a ≡ l → Tells (set x.nearest a (node + 1)) (under l node sc)
-      below e = rw (e, add-one node) (tells-under x.nearest sc l node W.nearest h.range.0 g)
+      below e = rw (e, add-one node) (tells_under x.nearest sc l node W.nearest h.range.0 g)
 
   -- the second side stands where the first one ends
   module _ (r : Place) (y : Sheet) (L : Lays s (at + (1 + b)) (node + 1) row up x r y) where
-    here-second : (t u : Term) (ts : List Term) (l : List Entry) → Here s (at + (1 + b)) (node + 1) row t (u ∷ ts) → Laid (at + (1 + b)) (node + 1) row x t l r y
-        → InRange u → node + 1 + size t + size u < 65536 → row + marked t + marked u ≤ node-limit → Here s r.at r.node r.row u ts
-    here-second t u ts l h w i f m = record { due = rw w.after (due-past s (at + (1 + b)) t (u ∷ ts) h.due); range = i; few = rw w.node f; room = rw w.row m }
+    here_second : (t u : Term) (ts : List Term) (l : List Entry) → Here s (at + (1 + b)) (node + 1) row t (u ∷ ts) → Laid (at + (1 + b)) (node + 1) row x t l r y
+        → InRange u → node + 1 + size t + size u < 65536 → row + marked t + marked u ≤ node_limit → Here s r.at r.node r.row u ts
+    here_second t u ts l h w i f m = record { due = rw w.after (due_past s (at + (1 + b)) t (u ∷ ts) h.due); range = i; few = rw w.node f; room = rw w.row m }
 
     -- the pass may go on with the second side, which stands further on
-    pub ready-second : kind ≢ 1 → kind ≢ 4 → kind ≢ 0 → Ready s at node row → Ready s r.at r.node r.row × (at < r.at)
-    unfolding headKind size marked
-    ready-second p q z (nil, ts, h) = absurd (z (kind-of nil ts h))
-    ready-second p q z (pre a k t, ts, h) = absurd (p (kind-of (pre a k t) ts h))
-    ready-second p q z (cho t u, ts, h) = let i = here-choice s at node row kind hk b hb t u ts h in let w = L t (u ∷ ts) (told x.nearest) i (tells-told x.nearest) in
-        ((u, ts, here-second t u ts _ i w h.range.1 (omega (arith, h.few)) (omega (arith, h.room))), omega (arith, w.after))
-    ready-second p q z (par t u, ts, h) = let i = here-parallel s at node row kind hk b hb t u ts h in let w = L t (u ∷ ts) (told x.nearest) i (tells-told x.nearest) in
-        ((u, ts, here-second t u ts _ i w h.range.1 (omega (arith, h.few)) (omega (arith, h.room))), omega (arith, w.after))
-    ready-second p q z (res a t, ts, h) = absurd (q (kind-of (res a t) ts h))
+    pub ready_second : kind ≢ 1 → kind ≢ 4 → kind ≢ 0 → Ready s at node row → Ready s r.at r.node r.row × (at < r.at)
+    unfolding head_kind size marked
+    ready_second p q z (nil, ts, h) = absurd (z (kind_of_lem nil ts h))
+    ready_second p q z (pre a k t, ts, h) = absurd (p (kind_of_lem (pre a k t) ts h))
+    ready_second p q z (cho t u, ts, h) = let i = here_choice s at node row kind hk b hb t u ts h in let w = L t (u ∷ ts) (told x.nearest) i (tells_told x.nearest) in
+        ((u, ts, here_second t u ts _ i w h.range.1 (omega (arith, h.few)) (omega (arith, h.room))), omega (arith, w.after))
+    ready_second p q z (par t u, ts, h) = let i = here_parallel s at node row kind hk b hb t u ts h in let w = L t (u ∷ ts) (told x.nearest) i (tells_told x.nearest) in
+        ((u, ts, here_second t u ts _ i w h.range.1 (omega (arith, h.few)) (omega (arith, h.room))), omega (arith, w.after))
+    ready_second p q z (res a t, ts, h) = absurd (q (kind_of_lem (res a t) ts h))
 
     module _ (p : kind ≢ 1) (q : kind ≢ 4) (z : kind ≢ 0) (r₂ : Place) (x' : Sheet) (M : Lays s r.at r.node r.row up y r₂ x') where
       -- the rows of both sides
-      both : (t u : Term) (ts : List Term) (sc : Scopes) → Tells x.nearest sc → InRange u → node + 1 + size t + size u < 65536 → row + marked t + marked u ≤ node-limit
+      both : (t u : Term) (ts : List Term) (sc : Scopes) → Tells x.nearest sc → InRange u → node + 1 + size t + size u < 65536 → row + marked t + marked u ≤ node_limit
           → Here s (at + (1 + b)) (node + 1) row t (u ∷ ts)
           → (r₂.at ≡ at + (1 + b) + length (encode t) + length (encode u)) × (r₂.node ≡ node + 1 + size t + size u) × (r₂.row ≡ row + marked t + marked u)
           × Rows row r₂.row x x' (entries (suc node) row up sc t ++ entries (suc node + size t) (row + marked t) up sc u) × Sized x'
-      both t u ts sc g i f m h = let w = L t (u ∷ ts) sc h g in let v = M u ts sc (here-second t u ts _ h w i f m) (rw w.rows.nearest g) in (
+      both t u ts sc g i f m h = let w = L t (u ∷ ts) sc h g in let v = M u ts sc (here_second t u ts _ h w i f m) (rw w.rows.nearest g) in (
         omega (arith, w.after, v.after),
         omega (arith, w.node, v.node),
         omega (arith, w.row, v.row),
-        rows_both row r.row r₂.row x y x' _ _ (at-child row up r.row x y sc t w.rows) (second w.node w.row v.rows),
+        rows_both row r.row r₂.row x y x' _ _ (at_child row up r.row x y sc t w.rows) (second w.node w.row v.rows),
         v.sized,
       )
         where
@@ -190,27 +190,27 @@ module _ (s : List ℕ) (at node row kind : ℕ) (hk : kind ≡ get_or s at 0) (
               → Rows r.row r₂.row y x' (entries (suc node + size t) (row + marked t) up sc u)
           second e d R = rw (← add-one node, ← e, ← d) R
 
-      pub lays-two : Lays s at node row up x r₂ x'
-      unfolding headKind encode size marked entries
-      lays-two nil ts sc h g = absurd (z (kind-of nil ts h))
-      lays-two (pre a k t) ts sc h g = absurd (p (kind-of (pre a k t) ts h))
-      lays-two (cho t u) ts sc h g = let w = both t u ts sc g h.range.1 (omega (arith, h.few)) (omega (arith, h.room)) (here-choice s at node row kind hk b hb t u ts h) in
-          record { after = omega (arith, w.0, body 2 (kind-of (cho t u) ts h), length-append (encode t) (encode u)); node = omega (arith, w.1); row = omega (arith, w.2); rows = w.3; sized = w.4 }
-      lays-two (par t u) ts sc h g = let w = both t u ts sc g h.range.1 (omega (arith, h.few)) (omega (arith, h.room)) (here-parallel s at node row kind hk b hb t u ts h) in
-          record { after = omega (arith, w.0, body 3 (kind-of (par t u) ts h), length-append (encode t) (encode u)); node = omega (arith, w.1); row = omega (arith, w.2); rows = w.3; sized = w.4 }
-      lays-two (res a t) ts sc h g = absurd (q (kind-of (res a t) ts h))
+      pub lays_two : Lays s at node row up x r₂ x'
+      unfolding head_kind encode size marked entries
+      lays_two nil ts sc h g = absurd (z (kind_of_lem nil ts h))
+      lays_two (pre a k t) ts sc h g = absurd (p (kind_of_lem (pre a k t) ts h))
+      lays_two (cho t u) ts sc h g = let w = both t u ts sc g h.range.1 (omega (arith, h.few)) (omega (arith, h.room)) (here_choice s at node row kind hk b hb t u ts h) in
+          record { after = omega (arith, w.0, body 2 (kind_of_lem (cho t u) ts h), length-append (encode t) (encode u)); node = omega (arith, w.1); row = omega (arith, w.2); rows = w.3; sized = w.4 }
+      lays_two (par t u) ts sc h g = let w = both t u ts sc g h.range.1 (omega (arith, h.few)) (omega (arith, h.room)) (here_parallel s at node row kind hk b hb t u ts h) in
+          record { after = omega (arith, w.0, body 3 (kind_of_lem (par t u) ts h), length-append (encode t) (encode u)); node = omega (arith, w.1); row = omega (arith, w.2); rows = w.3; sized = w.4 }
+      lays_two (res a t) ts sc h g = absurd (q (kind_of_lem (res a t) ts h))
 
 -- what the columns are after a row has been written but for its end
-pub after-note : (x : Sheet) (i k a v u : ℕ) (ks acs ss us : List ℕ) → (ks ≡ set x.keys i k) × (acs ≡ set x.actions i a) × (ss ≡ set x.scopes i v) × (us ≡ set x.ups i u)
+pub after_note : (x : Sheet) (i k a v u : ℕ) (ks acs ss us : List ℕ) → (ks ≡ set x.keys i k) × (acs ≡ set x.actions i a) × (ss ≡ set x.scopes i v) × (us ≡ set x.ups i u)
     → record { keys = ks; actions = acs; ends = x.ends; scopes = ss; ups = us; nearest = x.nearest } ≡ noted x i k a v u
-after-note x i k a v u ks acs ss us e = rw (e.0, e.1, e.2, e.3)
+after_note x i k a v u ks acs ss us e = rw (e.0, e.1, e.2, e.3)
 
 pub sized_same : (x y : Sheet) → x ≡ y → Sized y → Sized x
 sized_same x y e z = rw e z
 
-pub lays-same : (s : List ℕ) (at node row : ℕ) (up : Key) (x y : Sheet) (r : Place) (z : Sheet) → x ≡ y → Lays s at node row up x r z → Lays s at node row up y r z
-lays-same s at node row up x y r z e = subst (λ (w : Sheet). Lays s at node row up w r z) e
+pub lays_same : (s : List ℕ) (at node row : ℕ) (up : Key) (x y : Sheet) (r : Place) (z : Sheet) → x ≡ y → Lays s at node row up x r z → Lays s at node row up y r z
+lays_same s at node row up x y r z e = subst (λ (w : Sheet). Lays s at node row up w r z) e
 
 -- where the pass ends there are rows enough, and the columns are whole
-pub laid_end : (s : List ℕ) (at node row : ℕ) (up : Key) (x : Sheet) (r : Place) (y : Sheet) → Ready s at node row → Lays s at node row up x r y → (r.row ≤ node-limit) × Sized y
-laid_end s at node row up x r y (t, ts, h) L = let w = L t ts (told x.nearest) h (tells-told x.nearest) in (omega (arith, w.row, h.room), w.sized)
+pub laid_end : (s : List ℕ) (at node row : ℕ) (up : Key) (x : Sheet) (r : Place) (y : Sheet) → Ready s at node row → Lays s at node row up x r y → (r.row ≤ node_limit) × Sized y
+laid_end s at node row up x r y (t, ts, h) L = let w = L t ts (told x.nearest) h (tells_told x.nearest) in (omega (arith, w.row, h.room), w.sized)

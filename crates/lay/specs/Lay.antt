@@ -1,7 +1,7 @@
 -- What it takes to lay out the term at a place of a record, and what that leaves behind.
 use Rattle.std.specs.Prelude.{◌≡◌, ◌≢◌, List, ◌∷◌, ℕ, ◌+◌, ◌≤◌, ◌<◌, ◌%◌, length, take, get_or}
 use Rattle.ccsk.specs.Term.{Term, Label, Key, Node, size}
-use Rattle.format.specs.Limits.{node-limit}
+use Rattle.format.specs.Limits.{node_limit}
 use Rattle.format.specs.Encode.{encode, InRange}
 use Rattle.format.specs.Flat.{Due}
 use Rattle.causes.specs.Entry.{Entry, Scopes, marked, entries, all}
@@ -14,7 +14,7 @@ pub record Here (s : List ℕ) (at : ℕ) (node : Node) (row : ℕ) (t : Term) (
   pub due : Due s at (t ∷ ts)
   pub range : InRange t
   pub few : node + size t < 65536
-  pub room : row + marked t ≤ node-limit
+  pub room : row + marked t ≤ node_limit
 
 -- a term stands there
 abbrev pub Ready : List ℕ → ℕ → Node → ℕ → Type 0
@@ -39,16 +39,16 @@ Lays s at node row up x r x' = (t : Term) (ts : List Term) (sc : Scopes) → Her
 
 -- each column has a place for every node
 pub record Whole (ks acs es ss us : List ℕ) : Type 0 where
-  pub keys : length ks ≡ node-limit
-  pub actions : length acs ≡ node-limit
-  pub ends : length es ≡ node-limit
-  pub scopes : length ss ≡ node-limit
-  pub ups : length us ≡ node-limit
+  pub keys : length ks ≡ node_limit
+  pub actions : length acs ≡ node_limit
+  pub ends : length es ≡ node_limit
+  pub scopes : length ss ≡ node_limit
+  pub ups : length us ≡ node_limit
 
 -- the first r rows of the columns are the entries of the record's term
 pub record AllLaid (t : Term) (r : ℕ) (ks acs es ss us : List ℕ) : Type 0 where
   pub count : r ≡ length (all t)
-  pub few : r ≤ node-limit
+  pub few : r ≤ node_limit
   pub whole : Whole ks acs es ss us
   pub keys : take r ks ≡ column (λ e. e.key) (all t)
   pub actions : take r acs ≡ column (λ e. e.action) (all t)

@@ -1,6 +1,6 @@
 -- The columns that a record is laid out in, and the table of nearest restrictions.
 use Rattle.std.specs.Prelude.{◌≡◌, List, [], ◌∷◌, ◌++◌, ℕ, length, take}
-use Rattle.format.specs.Limits.{node-limit}
+use Rattle.format.specs.Limits.{node_limit}
 use Rattle.causes.specs.Entry.{Entry}
 
 -- five columns, a place in each for a row, and for each name one more than the node number of the innermost open restriction on it, 0 if there is none
@@ -17,11 +17,11 @@ sheet ks acs es ss us near = record { keys = ks; actions = acs; ends = es; scope
 
 -- each column has a place for every node, and the table one for each name
 pub record Sized (x : Sheet) : Type 0 where
-  pub keys : length x.keys ≡ node-limit
-  pub actions : length x.actions ≡ node-limit
-  pub ends : length x.ends ≡ node-limit
-  pub scopes : length x.scopes ≡ node-limit
-  pub ups : length x.ups ≡ node-limit
+  pub keys : length x.keys ≡ node_limit
+  pub actions : length x.actions ≡ node_limit
+  pub ends : length x.ends ≡ node_limit
+  pub scopes : length x.scopes ≡ node_limit
+  pub ups : length x.ups ≡ node_limit
   pub nearest : length x.nearest ≡ 128
 
 -- what the entries hold in one field

@@ -1,7 +1,7 @@
 // Lays a record out in columns, a row for each prefix that holds a key, in preorder.
 // Helpers between crates, with what each asks of its caller.
 ghost use Rattle.std.specs.Prelude.{◌≡◌, ◌+◌, ◌<◌, ◌%◌, length, get_or, set};
-ghost use Rattle.format.specs.Limits.{node-limit};
+ghost use Rattle.format.specs.Limits.{node_limit};
 ghost use Rattle.keys.specs.Gather.{Readable};
 ghost use Rattle.lay.specs.Sheet.{sheet, Sized};
 ghost use Rattle.lay.specs.Lay.{Ready, Lays, Whole, LaidOut};
@@ -30,7 +30,7 @@ fn note(
     ups: &mut [u16; NODES],
     nearest: &[u16; NAMES],
 )
-    requires { (row < node-limit) × (length keys.old ≡ node-limit) × (length actions.old ≡ node-limit) × (length scopes.old ≡ node-limit) × (length ups.old ≡ node-limit) × (length nearest.now ≡ 128) }
+    requires { (row < node_limit) × (length keys.old ≡ node_limit) × (length actions.old ≡ node_limit) × (length scopes.old ≡ node_limit) × (length ups.old ≡ node_limit) × (length nearest.now ≡ 128) }
     ensures { (keys.new ≡ set keys.old row key) × (actions.new ≡ set actions.old row action) × (scopes.new ≡ set scopes.old row (get_or nearest.now (action % 128) 0)) × (ups.new ≡ set ups.old row up) }
 {
     keys[row] = key;

@@ -26,9 +26,9 @@ module _ (n : ℕ) (tree : List ℕ) (T : Tree n tree) where
       pick (no z) f = let e : i ≡ 1 = omega arith in rw e (omega arith)
 
   -- what stands at a place stands at a leaf
-  leaf-of : (d i : ℕ) → n + n ≤ i + d → 0 < i → i < n + n → (k : ℕ) × (k < n) × (get_or tree i 0 ≡ leaf n tree k)
-  leaf-of zero i l h g = absurd (omega arith)
-  leaf-of (suc d) i l h g = pick (dec_lt i n) (leaf-of d)
+  leaf_of : (d i : ℕ) → n + n ≤ i + d → 0 < i → i < n + n → (k : ℕ) × (k < n) × (get_or tree i 0 ≡ leaf n tree k)
+  leaf_of zero i l h g = absurd (omega arith)
+  leaf_of (suc d) i l h g = pick (dec_lt i n) (leaf_of d)
     where
       pick : Dec (i < n) → ((i : ℕ) → n + n ≤ i + d → 0 < i → i < n + n → (k : ℕ) × (k < n) × (get_or tree i 0 ≡ leaf n tree k)) → (k : ℕ) × (k < n) × (get_or tree i 0 ≡ leaf n tree k)
       pick (no z) f = let e : n + (i - n) ≡ i = omega arith in (i - n, omega arith, rw e refl)
@@ -36,11 +36,11 @@ module _ (n : ℕ) (tree : List ℕ) (T : Tree n tree) where
           (λ e. let r = f (i + i + 1) (omega arith) (omega arith) (omega arith) in (r.0, r.1, e ∙ r.2)) (T.inner i h z).either
 
   -- a number that is there is not below the root
-  pub root-least : (k : ℕ) → k < n → leaf n tree k ≡ k → get_or tree 1 0 ≤ k
-  root-least k h e = omega (arith, under (n + k) (n + k) (omega arith) (omega arith) (omega arith), e)
+  pub root_least : (k : ℕ) → k < n → leaf n tree k ≡ k → get_or tree 1 0 ≤ k
+  root_least k h e = omega (arith, under (n + k) (n + k) (omega arith) (omega arith) (omega arith), e)
 
   -- a root that is a number is one that is there
-  pub root-there : 0 < n → get_or tree 1 0 < 65535 → (get_or tree 1 0 < n) × (leaf n tree (get_or tree 1 0) ≡ get_or tree 1 0)
-  root-there h g = let r = leaf-of (n + n) 1 (omega arith) (omega arith) (omega arith) in ⊎_elim
+  pub root_there : 0 < n → get_or tree 1 0 < 65535 → (get_or tree 1 0 < n) × (leaf n tree (get_or tree 1 0) ≡ get_or tree 1 0)
+  root_there h g = let r = leaf_of (n + n) 1 (omega arith) (omega arith) (omega arith) in ⊎_elim
       (λ z. let q : get_or tree 1 0 ≡ r.0 = r.2 ∙ z in (omega (arith, r.1, q), rw q z))
       (λ z. absurd (omega (arith, r.2, z))) (T.leaves.leaves r.0 r.1)

@@ -12,38 +12,38 @@ use Rattle.ccsk.specs.Term.{Term, Key, Has}
 use Rattle.ccsk.proofs.Lists.{in_either}
 use Rattle.sound.specs.Run.{Undos}
 use Rattle.sound.specs.Sound.{Chain, more, Sound, Verdict, sound}
-use Rattle.sound.proofs.Chains.{chain-map}
-use Rattle.causes.proofs.Nearest.{right-before}
-use Rattle.causes.proofs.Chains.{right-apart}
-use Rattle.format.specs.Limits.{node-limit}
+use Rattle.sound.proofs.Chains.{chain_map}
+use Rattle.causes.proofs.Nearest.{right_before}
+use Rattle.causes.proofs.Chains.{right_apart}
+use Rattle.format.specs.Limits.{node_limit}
 use Rattle.format.specs.Read.{Reads}
 use Rattle.format.specs.Encode.{encode}
 use Rattle.operations.specs.Order.{WaitsFor}
 use Rattle.operations.specs.TakeBack.{Goes, InTurn, TakeBack}
-use Rattle.operations.proofs.Readable.{reads-one}
-use Rattle.operations.proofs.Reachable.{sound-done}
-use Rattle.operations.proofs.RowOnce.{waits-key}
-use Rattle.operations.proofs.InTurn.{turn-goes}
-use Rattle.operations.proofs.TakeBackOnce.{goes-key, turn_holds}
-use Rattle.operations.proofs.Bounds.{listed-few}
-use Rattle.keyset.specs.Set.{member, membersBelow, added, Added}
-use Rattle.keyset.proofs.Sets.{length-added, added-same, added-other}
-use Rattle.keyset.proofs.Members.{members-list}
-use Rattle.keyset.proofs.Counts.{members-count}
+use Rattle.operations.proofs.Readable.{reads_one}
+use Rattle.operations.proofs.Reachable.{sound_done}
+use Rattle.operations.proofs.RowOnce.{waits_key}
+use Rattle.operations.proofs.InTurn.{turn_goes}
+use Rattle.operations.proofs.TakeBackOnce.{goes_key, turn_holds}
+use Rattle.operations.proofs.Bounds.{listed_few}
+use Rattle.keyset.specs.Set.{member, members_below, added, Added}
+use Rattle.keyset.proofs.Sets.{length_added, added_same, added_other}
+use Rattle.keyset.proofs.Members.{members_list}
+use Rattle.keyset.proofs.Counts.{members_count}
 use Rattle.keyset.proofs.Listing.{row_more}
 use Rattle.keys.specs.Erase.{erase, Erased}
 use Rattle.keys.proofs.Distinct.{snoc}
-use Rattle.keys.proofs.Marks.{holds-members, put_in}
+use Rattle.keys.proofs.Marks.{holds_members, put_in}
 use Rattle.rank.proofs.Ranks.{rank-length}
 use Rattle.filing.specs.Cabinet.{Cabinet, Link}
 use Rattle.chains.specs.Reach.{LeadsTo, Closed}
-use Rattle.waiting.proofs.Answers.{counted, no_zero, listed, to-keys, waits}
+use Rattle.waiting.proofs.Answers.{counted, no_zero, listed, to_keys_lem, waits}
 use Rattle.threads.specs.Rows.{Leads}
 use Rattle.threads.specs.Threads.{Held, Sortable}
 use Rattle.threads.proofs.Threading.{held_small}
 use Rattle.order.specs.Setup.{Sorted}
 use Rattle.linked.specs.Linked.{Linked}
-use Rattle.linked.proofs.Turns.{in-turn}
+use Rattle.linked.proofs.Turns.{in_turn}
 use Rattle.linked.proofs.Undone.{erased}
 
 module _ (s : List ℕ) (m : Key) (x : Cabinet) (links : ℕ) (L : Linked s m x links) where
@@ -53,18 +53,18 @@ module _ (s : List ℕ) (m : Key) (x : Cabinet) (links : ℕ) (L : Linked s m x 
   reads : Reads s of
   reads = L.filed.1.1.reads
 
-  is-sound : Sound of
-  is-sound = let w = sound-done L.sound in subst Sound (reads-one s w.1 reads) w.2
+  is_sound : Sound of
+  is_sound = let w = sound_done L.sound in subst Sound (reads_one s w.1 reads) w.2
 
   stands : Has m of
-  stands = subst (Has m) (reads-one s L.stands.1.reads reads) L.stands.2
+  stands = subst (Has m) (reads_one s L.stands.1.reads reads) L.stands.2
 
   verdict : Verdict of 0
-  verdict = sound is-sound
+  verdict = sound is_sound
 
   -- no link leads back
   acyclic : (k : Key) → ¬ Chain (Link x) k k
-  acyclic k c = is-sound.ordered k (chain-map (λ a b l. let i = (L.filed.1.2 a b).0 l in right-before of a b (right-apart of is-sound.twice is-sound.split a b i) i) c)
+  acyclic k c = is_sound.ordered k (chain_map (λ a b l. let i = (L.filed.1.2 a b).0 l in right_before of a b (right_apart of is_sound.twice is_sound.split a b i) i) c)
 
   -- the set of the keys that were reached: those that m waits for
   module _ (marks : List ℕ) (n : ℕ) (C : Closed x m marks n) where
@@ -78,10 +78,10 @@ module _ (s : List ℕ) (m : Key) (x : Cabinet) (links : ℕ) (L : Linked s m x 
     held k = let w = waits s x L.filed m k in ((λ h. w.0 ((reached k).0 h)), λ h. (reached k).1 (w.1 h))
 
     zero : member marks 0 ≡ false
-    zero = no_zero x m marks n C (to-keys s x L.filed)
+    zero = no_zero x m marks n C (to_keys_lem s x L.filed)
 
-    pub few : n ≤ node-limit
-    few = omega (arith, counted x m marks n C, listed-few (LeadsTo x m) of (membersBelow marks 65536) L.filed.1.1.fits (listed x m marks n C (to-keys s x L.filed)) (λ k p w. waits-key of m k p ((waits s x L.filed m k).0 w)))
+    pub few : n ≤ node_limit
+    few = omega (arith, counted x m marks n C, listed_few (LeadsTo x m) of (members_below marks 65536) L.filed.1.1.fits (listed x m marks n C (to_keys_lem s x L.filed)) (λ k p w. waits_key of m k p ((waits s x L.filed m k).0 w)))
 
     pub sortable : Sortable marks n links x.upper x.lower
     sortable = record {
@@ -100,27 +100,27 @@ module _ (s : List ℕ) (m : Key) (x : Cabinet) (links : ℕ) (L : Linked s m x 
 
     -- the set with m itself: all keys that go
     module _ (marks' : List ℕ) (g : ℕ) (A : Added marks m marks' g) (small : m < 65536) where
-      with-key : (k : Key) → Held marks' k ↔ Goes of m k
-      with-key k = rw A.result (pick (ℕ_discrete k m))
+      with_key : (k : Key) → Held marks' k ↔ Goes of m k
+      with_key k = rw A.result (pick (ℕ_discrete k m))
         where
           pick : Dec (k ≡ m) → Held (added marks m) k ↔ Goes of m k
-          pick (yes e) = ((λ h. inl e), λ h. rw e (added-same marks m (omega (arith, C.holds.whole))))
-          pick (no e) = rw (added-other marks m k (omega (arith, C.holds.whole)) e) ((λ h. inr ((held k).0 h)), λ w. ⊎_elim (λ z. absurd (e z)) (held k).1 w)
+          pick (yes e) = ((λ h. inl e), λ h. rw e (added_same marks m (omega (arith, C.holds.whole))))
+          pick (no e) = rw (added_other marks m k (omega (arith, C.holds.whole)) e) ((λ h. inr ((held k).0 h)), λ w. ⊎_elim (λ z. absurd (e z)) (held k).1 w)
 
       whole : length marks' ≡ 8192
       whole = (put_in marks m small marks' g A C.keys C.holds).0.whole
 
       -- they are one more than those that m waits for
-      goers-count : length (membersBelow marks' 65536) ≡ suc n
-      goers-count = let w = put_in marks m small marks' g A C.keys C.holds in
-          omega (arith, members-count marks' 65536 (snoc C.keys m) (holds-members marks' (snoc C.keys m) w.0 in_small), w.1, C.count, gain)
+      goers_count : length (members_below marks' 65536) ≡ suc n
+      goers_count = let w = put_in marks m small marks' g A C.keys C.holds in
+          omega (arith, members_count marks' 65536 (snoc C.keys m) (holds_members marks' (snoc C.keys m) w.0 in_small), w.1, C.count, gain)
         where
           new : member marks m ≡ false
-          new = not-held (member marks m) refl
+          new = not_held (member marks m) refl
             where
-              not-held : (b : Bool) → member marks m ≡ b → b ≡ false
-              not-held true e = absurd (((reached m).0 e).0 refl)
-              not-held false e = refl
+              not_held : (b : Bool) → member marks m ≡ b → b ≡ false
+              not_held true e = absurd (((reached m).0 e).0 refl)
+              not_held false e = refl
 
           gain : g ≡ 1
           gain = A.gain ∙ ap (λ (b : Bool). cond b 0 1) new
@@ -128,23 +128,23 @@ module _ (s : List ℕ) (m : Key) (x : Cabinet) (links : ℕ) (L : Linked s m x 
           in_small : (k : Key) → In k (snoc C.keys m) → k < 65536
           in_small k i = ⊎_elim (C.small k) (⊎_elim (λ e. rw e small) (λ z. absurd z)) (in_either k C.keys (m ∷ []) i)
 
-      goers : Lists (Goes of m) (membersBelow marks' 65536)
-      goers = members-list marks' no_key 65536 (Goes of m) each
+      goers : Lists (Goes of m) (members_below marks' 65536)
+      goers = members_list marks' no_key 65536 (Goes of m) each
         where
           no_key : member marks' 0 ≡ false
-          no_key = rw A.result (added-other marks m 0 (omega (arith, C.holds.whole)) (λ e. omega (arith, L.key)) ∙ zero)
+          no_key = rw A.result (added_other marks m 0 (omega (arith, C.holds.whole)) (λ e. omega (arith, L.key)) ∙ zero)
 
           positive : (k : Key) → Goes of m k → 0 < k
           positive k (inl e) = rw e L.key
-          positive k (inr w) = (goes-key of m k L.key stands (inr w)).0
+          positive k (inr w) = (goes_key of m k L.key stands (inr w)).0
 
           each : (k : Key) → (k < 65536) × (member marks' k ≡ true) ↔ (0 < k) × Goes of m k
-          each k = ((λ w. let z = (with-key k).0 w.1 in (positive k z, z)), λ w. let h = (with-key k).1 w.1 in (held_small marks' whole k h, h))
+          each k = ((λ w. let z = (with_key k).0 w.1 in (positive k z, z)), λ w. let h = (with_key k).1 w.1 in (held_small marks' whole k h, h))
 
     -- the row is too short
     pub too_short : m < 65536 → (row : List ℕ) → length row ≤ n → TakeBack s m row 9 0 s row
     too_short h row g = let A : Added marks m (added marks m) (cond (member marks m) 0 1) = record { result = refl; gain = refl } in
-        TakeBack.short (membersBelow (added marks m) 65536) reads L.key verdict stands (goers (added marks m) _ A h) (omega (arith, goers-count (added marks m) _ A h))
+        TakeBack.short (members_below (added marks m) 65536) reads L.key verdict stands (goers (added marks m) _ A h) (omega (arith, goers_count (added marks m) _ A h))
 
     -- all that goes is undone in turn, and the record is left without it
     module _ (row row₁ : List ℕ) (O : Sorted marks n x.upper x.lower row row₁) (h : n < length row) (marks' : List ℕ) (g : ℕ) (A : Added marks m marks' g) (small : m < 65536)
@@ -153,20 +153,20 @@ module _ (s : List ℕ) (m : Key) (x : Cabinet) (links : ℕ) (L : Linked s m x 
       order = O.order ++ (m ∷ [])
 
       turn : (u : Term) × InTurn (Goes of m) order of u × (u ≡ erase (member marks') of)
-      turn = let w = in-turn of m is-sound L.key stands (Leads x.upper x.lower) L.filed.1.2 (Held marks) held O.order O.peels in
-          (w.0, w.1, erased (member marks') w.2 (λ k i. (with-key marks' g A small k).1 (turn-goes k w.1 i)) (λ k p i. absent k (member marks' k) refl (w.3 k p i) p w))
+      turn = let w = in_turn of m is_sound L.key stands (Leads x.upper x.lower) L.filed.1.2 (Held marks) held O.order O.peels in
+          (w.0, w.1, erased (member marks') w.2 (λ k i. (with_key marks' g A small k).1 (turn_goes k w.1 i)) (λ k p i. absent k (member marks' k) refl (w.3 k p i) p w))
         where
           absent : (k : Key) (b : Bool) → member marks' k ≡ b → ¬ In k order → 0 < k → (w : (u : Term) × InTurn (Goes of m) order of u × Undos order of u × ((k : ℕ) → 0 < k → Has k u → ¬ In k order)) → b ≡ false
-          absent k true e f p w = absurd (f ((turn_holds L.key stands w.1 k).1 ((with-key marks' g A small k).0 e)))
+          absent k true e f p w = absurd (f ((turn_holds L.key stands w.1 k).1 ((with_key marks' g A small k).0 e)))
           absent k false e f p w = refl
 
       many : n + 1 ≡ length order
       many = omega (arith, O.count, length-append O.order (m ∷ []))
 
       pub taken_back : TakeBack s m row 0 (n + 1) s' (set row₁ n m)
-      taken_back = let w = turn in let e : s' ≡ encode w.0 = E.2 ∙ ap encode (ap (erase (member marks')) (reads-one s E.1.reads reads) ∙ sym w.2) in
+      taken_back = let w = turn in let e : s' ≡ encode w.0 = E.2 ∙ ap encode (ap (erase (member marks')) (reads_one s E.1.reads reads) ∙ sym w.2) in
           rw (e, row_more O.order row row₁ n m (sym O.count) h O.front, many) (TakeBack.done reads L.key verdict stands w.1 (omega (arith, many)))
 
 -- a set is whole after a key was put into it
-pub set-whole : {marks marks' : List ℕ} {k g : ℕ} → Added marks k marks' g → length marks ≡ 8192 → length marks' ≡ 8192
-set-whole {marks} {k = k} A e = ap length A.result ∙ length-added marks k ∙ e
+pub set_whole : {marks marks' : List ℕ} {k g : ℕ} → Added marks k marks' g → length marks ≡ 8192 → length marks' ≡ 8192
+set_whole {marks} {k = k} A e = ap length A.result ∙ length_added marks k ∙ e

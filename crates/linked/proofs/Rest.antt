@@ -9,12 +9,12 @@ use Rattle.ccsk.specs.Term.{Term, Has}
 use Rattle.ccsk.specs.Step.{Undo, Undoable}
 use Rattle.ccsk.proofs.Undo.{absent}
 use Rattle.sound.specs.Sound.{Above, Chain, one, more, Sound}
-use Rattle.sound.proofs.Order.{has-undo, has-redo, above-undo, above-redo, above_low, last}
-use Rattle.sound.proofs.Kept.{sound-undo}
+use Rattle.sound.proofs.Order.{has_undo, has_redo, above_undo, above_redo, above_low, last}
+use Rattle.sound.proofs.Kept.{sound_undo}
 use Rattle.sound.proofs.Derive.{Last}
-use Rattle.sound.proofs.Reach.{undo-last}
+use Rattle.sound.proofs.Reach.{undo_last}
 use Rattle.causes.specs.Nearest.{RightAbove}
-use Rattle.causes.proofs.Nearest.{before-chain, right-above-keys, right-keys}
+use Rattle.causes.proofs.Nearest.{before_chain, right_above_keys, right_keys}
 
 -- v is t without the keys of `out`, and what stands below one of these is one of them.
 pub record Rest (t : Term) (out : List ℕ) (v : Term) : Type 0 where
@@ -26,8 +26,8 @@ pub record Rest (t : Term) (out : List ℕ) (v : Term) : Type 0 where
   pub closed : (k n : ℕ) → In k out → RightAbove 0 t k n → In n out
 
 -- the term itself, with no key out
-pub rest-start : (t : Term) → Sound t → Rest t [] t
-rest-start t s = record {
+pub rest_start : (t : Term) → Sound t → Rest t [] t
+rest_start t s = record {
   sound = s;
   kept = λ k p i o. i;
   gone = λ k p i o. o;
@@ -38,13 +38,13 @@ rest-start t s = record {
 
 module _ {t v : Term} {out : List ℕ} (r : Rest t out v) where
   -- one undo more, of a key that stands right above none but itself and those that are out
-  pub rest-undo : {w : Term} {k l : ℕ} → Undo v k l w → ((n : ℕ) → n ≢ k → RightAbove 0 t k n → In n out) → Rest t (k ∷ out) w
-  rest-undo {w} {k} d f = record {
-    sound = sound-undo d r.sound;
-    kept = λ j p i o. has-redo j d p (λ e. o (inl e)) (r.kept j p i (λ x. o (inr x)));
-    gone = λ j p i. ⊎_elim (λ e. absent d (rw e at i)) (r.gone j p (has-undo j d p i));
-    back = λ j n p q i. r.back j n p q (above-undo j n d p q i);
-    ahead = λ j n q o i. above-redo j n d q (λ e. o (inl e)) (r.ahead j n q (λ x. o (inr x)) i);
+  pub rest_undo : {w : Term} {k l : ℕ} → Undo v k l w → ((n : ℕ) → n ≢ k → RightAbove 0 t k n → In n out) → Rest t (k ∷ out) w
+  rest_undo {w} {k} d f = record {
+    sound = sound_undo d r.sound;
+    kept = λ j p i o. has_redo j d p (λ e. o (inl e)) (r.kept j p i (λ x. o (inr x)));
+    gone = λ j p i. ⊎_elim (λ e. absent d (rw e at i)) (r.gone j p (has_undo j d p i));
+    back = λ j n p q i. r.back j n p q (above_undo j n d p q i);
+    ahead = λ j n q o i. above_redo j n d q (λ e. o (inl e)) (r.ahead j n q (λ x. o (inr x)) i);
     closed = stays;
   }
     where
@@ -71,19 +71,19 @@ module _ {t v : Term} {out : List ℕ} (r : Rest t out v) where
       pick (no e) (inr i) = inr (r.closed j n i b)
 
   -- such a key can be undone
-  pub can-undo : (k : ℕ) → 0 < k → Has k t → ¬ In k out → ((n : ℕ) → n ≢ k → RightAbove 0 t k n → In n out) → Undoable v k
-  can-undo k p i o f = let d = undo-last v k r.sound p (r.kept k p i o) none in (d.0, d.1.0, d.1.1)
+  pub can_undo : (k : ℕ) → 0 < k → Has k t → ¬ In k out → ((n : ℕ) → n ≢ k → RightAbove 0 t k n → In n out) → Undoable v k
+  can_undo k p i o f = let d = undo_last v k r.sound p (r.kept k p i o) none in (d.0, d.1.0, d.1.1)
     where
       none : Last k v
-      none n q e a = ⊎_elim e (r.gone n q (above_low k n v a)) (lead f (before-chain t (one (p, q, (λ z. e (sym z)), r.back k n p q a))))
+      none n q e a = ⊎_elim e (r.gone n q (above_low k n v a)) (lead f (before_chain t (one (p, q, (λ z. e (sym z)), r.back k n p q a))))
 
   -- and a key that can be undone is such a key
-  pub undo-ready : {w : Term} {k l : ℕ} → Undo v k l w → (n : ℕ) → RightAbove 0 t k n → In n out
-  undo-ready {k = k} d n b = pick (in? n out)
+  pub undo_ready : {w : Term} {k l : ℕ} → Undo v k l w → (n : ℕ) → RightAbove 0 t k n → In n out
+  undo_ready {k = k} d n b = pick (in? n out)
     where
       pos : 0 < n
-      pos = (right-keys 0 t k n b).1
+      pos = (right_keys 0 t k n b).1
 
       pick : Dec (In n out) → In n out
       pick (yes i) = i
-      pick (no o) = absurd (last n d pos (r.ahead k n pos o (right-above-keys t k n b).1))
+      pick (no o) = absurd (last n d pos (r.ahead k n pos o (right_above_keys t k n b).1))

@@ -1,6 +1,6 @@
 // The lines of a listing. What they say comes from the proved operations; here it is only put in order.
 ghost use Rattle.std.specs.Prelude.{◌≡◌, ◌≤◌, ◌<◌, length};
-ghost use Rattle.format.specs.Limits.{node-limit};
+ghost use Rattle.format.specs.Limits.{node_limit};
 ghost use Rattle.operations.specs.Ask.{ReadRecord};
 ghost use Rattle.shared.specs.Number.{refusal, value};
 ghost use Rattle.offers.specs.Forms.{SomePart};
@@ -29,7 +29,7 @@ fn value(given: Number) -> u16
 
 // Puts what every line of a step of node i begins with. It is made once for all of them.
 fn put_head(head: &mut [u8; PIECE], i: usize) -> usize
-    requires { (length head.old ≡ 16) × (i < node-limit) }
+    requires { (length head.old ≡ 16) × (i < node_limit) }
     ensures { (result ≤ 16) × (length head.new ≡ 16) }
 {
     let a = put_field(head, 0, b"forward ", narrow(i));
@@ -71,7 +71,7 @@ fn put_pairs(
     count: usize,
 ) -> usize
     requires n_bound { (n ≤ 4096) × (length space.old ≡ 4096) × (k ≤ 16) × (length head.now ≡ 16) }
-    requires count_le_node_limit { (count ≤ node-limit) × (length mates.now ≡ node-limit) }
+    requires count_le_node_limit { (count ≤ node_limit) × (length mates.now ≡ node_limit) }
     ensures { (result ≤ 4096) × (length space.new ≡ 4096) }
 {
     let mut at = n;
@@ -94,7 +94,7 @@ fn put_steps(
     sets: &[u64],
     nodes: usize,
 ) -> usize
-    requires n_bound { (n ≤ 4096) × (length space.old ≡ 4096) × (nodes ≤ node-limit) × (length marks.now ≡ node-limit) }
+    requires n_bound { (n ≤ 4096) × (length space.old ≡ 4096) × (nodes ≤ node_limit) × (length marks.now ≡ node_limit) }
     requires some_part { SomePart forms.now args.now ends.now 0 }
     requires room { Room forms.now args.now ends.now × Covers forms.now args.now ends.now sets.now }
     ensures { (result ≤ 4096) × (length space.new ≡ 4096) }
@@ -133,7 +133,7 @@ fn put_undo(space: &mut [u8], n: usize, key: u16, label: u8) -> usize
 
 // A line for each of the first `count` keys of the row, with its label.
 fn put_undos(space: &mut [u8], n: usize, row: &[u16], labels: &[u8; NODES], count: usize) -> usize
-    requires { (n ≤ 4096) × (length space.old ≡ 4096) × (count ≤ length row.now) × (count ≤ node-limit) }
+    requires { (n ≤ 4096) × (length space.old ≡ 4096) × (count ≤ length row.now) × (count ≤ node_limit) }
     ensures { (result ≤ 4096) × (length space.new ≡ 4096) }
 {
     let mut at = n;
@@ -173,7 +173,7 @@ fn list_refused(space: &mut [u8], refusal: u8)
 
 // The first line of a record that is read.
 fn put_counts(space: &mut [u8], bytes: &[u8], nodes: usize) -> usize
-    requires { (length space.old ≡ 4096) × (nodes ≤ node-limit) }
+    requires { (length space.old ≡ 4096) × (nodes ≤ node_limit) }
     ensures { (result ≤ 4096) × (length space.new ≡ 4096) }
 {
     let a = put_field(space, 0, b"nodes ", narrow(nodes));

@@ -41,22 +41,22 @@ set_after : (xs ys : List ℕ) (i v : ℕ) → set (xs ++ ys) (length xs + i) v 
 set_after [] ys i v = let e : 0 + i ≡ i = omega arith in rw e
 set_after (x ∷ xs) ys i v = rw (suc-add (length xs) i) (ap (λ (l : List ℕ). x ∷ l) (set_after xs ys i v))
 
-put-after : (m : Key) (xs ys : List ℕ) (b a h l i : ℕ) → i ≡ length xs → put m (xs ++ (b ∷ (a ∷ (h ∷ (l ∷ ys))))) i ≡ xs ++ (b ∷ (a ∷ (high m ∷ (low m ∷ ys))))
-put-after m xs ys b a h l i e = rw (e, set_after xs (b ∷ (a ∷ (h ∷ (l ∷ ys)))) 2 (high m), set_after xs (b ∷ (a ∷ (high m ∷ (l ∷ ys)))) 3 (low m))
+put_after : (m : Key) (xs ys : List ℕ) (b a h l i : ℕ) → i ≡ length xs → put m (xs ++ (b ∷ (a ∷ (h ∷ (l ∷ ys))))) i ≡ xs ++ (b ∷ (a ∷ (high m ∷ (low m ∷ ys))))
+put_after m xs ys b a h l i e = rw (e, set_after xs (b ∷ (a ∷ (h ∷ (l ∷ ys)))) 2 (high m), set_after xs (b ∷ (a ∷ (high m ∷ (l ∷ ys)))) 3 (low m))
 
-puts-append : (m : Key) (s x y : List ℕ) → puts m s (x ++ y) ≡ puts m (puts m s x) y
+puts_append : (m : Key) (s x y : List ℕ) → puts m s (x ++ y) ≡ puts m (puts m s x) y
 unfolding puts
-puts-append m s [] y = refl
-puts-append m s (i ∷ x) y = puts-append m (put m s i) x y
+puts_append m s [] y = refl
+puts_append m s (i ∷ x) y = puts_append m (put m s i) x y
 
 -- a key has two bytes, whatever key it is
-written-length : (c : Node → Key → Bool) (m : Key) (n : Node) (t : Term) → length (encode (written c m n t)) ≡ length (encode t)
+written_length : (c : Node → Key → Bool) (m : Key) (n : Node) (t : Term) → length (encode (written c m n t)) ≡ length (encode t)
 unfolding written encode
-written-length c m n nil = refl
-written-length c m n (pre a k t) = omega (arith, written-length c m (n + 1) t)
-written-length c m n (cho t u) = simp length-append (omega (arith, written-length c m (n + 1) t, written-length c m (n + 1 + size t) u))
-written-length c m n (par t u) = simp length-append (omega (arith, written-length c m (n + 1) t, written-length c m (n + 1 + size t) u))
-written-length c m n (res a t) = omega (arith, written-length c m (n + 1) t)
+written_length c m n nil = refl
+written_length c m n (pre a k t) = omega (arith, written_length c m (n + 1) t)
+written_length c m n (cho t u) = simp length-append (omega (arith, written_length c m (n + 1) t, written_length c m (n + 1 + size t) u))
+written_length c m n (par t u) = simp length-append (omega (arith, written_length c m (n + 1) t, written_length c m (n + 1 + size t) u))
+written_length c m n (res a t) = omega (arith, written_length c m (n + 1) t)
 
 -- what is written after some bytes more is written there too
 ahead : (m : Key) (l xs ys s s' : List ℕ) → puts m ((xs ++ ys) ++ s) l ≡ (xs ++ ys) ++ s' → puts m (xs ++ (ys ++ s)) l ≡ xs ++ (ys ++ s')
@@ -67,58 +67,58 @@ abbrev Puts : (Node → Key → Bool) → Key → Term → ℕ → Node → List
 Puts c m t i n xs ys = i ≡ length xs → puts m (xs ++ (encode t ++ ys)) (spots c i n t) ≡ xs ++ (encode (written c m n t) ++ ys)
 
 -- for two sides after a byte of kind
-two-sides : (c : Node → Key → Bool) (m : Key) (t u : Term) (i n b : ℕ) (xs ys : List ℕ) → i ≡ length xs
+two_sides : (c : Node → Key → Bool) (m : Key) (t u : Term) (i n b : ℕ) (xs ys : List ℕ) → i ≡ length xs
     → ((xs ys : List ℕ) → Puts c m t (i + 1) (n + 1) xs ys) → ((xs ys : List ℕ) → Puts c m u (i + 1 + length (encode t)) (n + 1 + size t) xs ys)
     → puts m (xs ++ (b ∷ ((encode t ++ encode u) ++ ys))) (spots c (i + 1) (n + 1) t ++ spots c (i + 1 + length (encode t)) (n + 1 + size t) u)
     ≡ xs ++ (b ∷ ((encode (written c m (n + 1) t) ++ encode (written c m (n + 1 + size t) u)) ++ ys))
-two-sides c m t u i n b xs ys e f g =
+two_sides c m t u i n b xs ys e f g =
     let t' = encode (written c m (n + 1) t) in let u' = encode (written c m (n + 1 + size t) u) in
     let l = spots c (i + 1) (n + 1) t in let l' = spots c (i + 1 + length (encode t)) (n + 1 + size t) u in
     let first = ahead m l xs (b ∷ []) (encode t ++ (encode u ++ ys)) (t' ++ (encode u ++ ys)) (f (xs ++ (b ∷ [])) (encode u ++ ys) (simp length-append (omega arith))) in
-    let second = ahead m l' xs (b ∷ t') (encode u ++ ys) (u' ++ ys) (g (xs ++ (b ∷ t')) ys (simp length-append (omega (arith, written-length c m (n + 1) t)))) in
-    rw (append_assoc (encode t) (encode u) ys, append_assoc t' u' ys, puts-append m (xs ++ (b ∷ (encode t ++ (encode u ++ ys)))) l l', first) second
+    let second = ahead m l' xs (b ∷ t') (encode u ++ ys) (u' ++ ys) (g (xs ++ (b ∷ t')) ys (simp length-append (omega (arith, written_length c m (n + 1) t)))) in
+    rw (append_assoc (encode t) (encode u) ys, append_assoc t' u' ys, puts_append m (xs ++ (b ∷ (encode t ++ (encode u ++ ys)))) l l', first) second
 
 -- for a prefix: the key that is there, or the one that is written
-at-prefix : (c : Node → Key → Bool) (m : Key) (t : Term) (i n a k : ℕ) (b : Bool) (xs ys : List ℕ) → i ≡ length xs → ((xs ys : List ℕ) → Puts c m t (i + 4) (n + 1) xs ys)
+at_prefix_lem : (c : Node → Key → Bool) (m : Key) (t : Term) (i n a k : ℕ) (b : Bool) (xs ys : List ℕ) → i ≡ length xs → ((xs ys : List ℕ) → Puts c m t (i + 4) (n + 1) xs ys)
     → puts m (xs ++ (1 ∷ (a ∷ (high k ∷ (low k ∷ (encode t ++ ys)))))) (tick b i (spots c (i + 4) (n + 1) t))
     ≡ xs ++ (1 ∷ (a ∷ (high (keyed b m k) ∷ (low (keyed b m k) ∷ (encode (written c m (n + 1) t) ++ ys)))))
 unfolding puts
-at-prefix c m t i n a k true xs ys e f = ap (λ (s : List ℕ). puts m s (spots c (i + 4) (n + 1) t)) (put-after m xs (encode t ++ ys) 1 a (high k) (low k) i e)
+at_prefix_lem c m t i n a k true xs ys e f = ap (λ (s : List ℕ). puts m s (spots c (i + 4) (n + 1) t)) (put_after m xs (encode t ++ ys) 1 a (high k) (low k) i e)
     ∙ ahead m (spots c (i + 4) (n + 1) t) xs (1 ∷ (a ∷ (high m ∷ (low m ∷ [])))) (encode t ++ ys) (encode (written c m (n + 1) t) ++ ys) (f (xs ++ (1 ∷ (a ∷ (high m ∷ (low m ∷ []))))) ys (simp length-append (omega arith)))
-at-prefix c m t i n a k false xs ys e f =
+at_prefix_lem c m t i n a k false xs ys e f =
     ahead m (spots c (i + 4) (n + 1) t) xs (1 ∷ (a ∷ (high k ∷ (low k ∷ [])))) (encode t ++ ys) (encode (written c m (n + 1) t) ++ ys) (f (xs ++ (1 ∷ (a ∷ (high k ∷ (low k ∷ []))))) ys (simp length-append (omega arith)))
 
-puts-spots : (c : Node → Key → Bool) (m : Key) (t : Term) (i n : ℕ) (xs ys : List ℕ) → Puts c m t i n xs ys
+puts_spots : (c : Node → Key → Bool) (m : Key) (t : Term) (i n : ℕ) (xs ys : List ℕ) → Puts c m t i n xs ys
 unfolding puts spots encode written
-puts-spots c m nil i n xs ys e = refl
-puts-spots c m (pre a k t) i n xs ys e = at-prefix c m t i n a k (c n k) xs ys e (puts-spots c m t (i + 4) (n + 1))
-puts-spots c m (cho t u) i n xs ys e = two-sides c m t u i n 2 xs ys e (puts-spots c m t (i + 1) (n + 1)) (puts-spots c m u (i + 1 + length (encode t)) (n + 1 + size t))
-puts-spots c m (par t u) i n xs ys e = two-sides c m t u i n 3 xs ys e (puts-spots c m t (i + 1) (n + 1)) (puts-spots c m u (i + 1 + length (encode t)) (n + 1 + size t))
-puts-spots c m (res a t) i n xs ys e = ahead m (spots c (i + 2) (n + 1) t) xs (4 ∷ (a ∷ [])) (encode t ++ ys) (encode (written c m (n + 1) t) ++ ys)
-    (puts-spots c m t (i + 2) (n + 1) (xs ++ (4 ∷ (a ∷ []))) ys (simp length-append (omega arith)))
+puts_spots c m nil i n xs ys e = refl
+puts_spots c m (pre a k t) i n xs ys e = at_prefix_lem c m t i n a k (c n k) xs ys e (puts_spots c m t (i + 4) (n + 1))
+puts_spots c m (cho t u) i n xs ys e = two_sides c m t u i n 2 xs ys e (puts_spots c m t (i + 1) (n + 1)) (puts_spots c m u (i + 1 + length (encode t)) (n + 1 + size t))
+puts_spots c m (par t u) i n xs ys e = two_sides c m t u i n 3 xs ys e (puts_spots c m t (i + 1) (n + 1)) (puts_spots c m u (i + 1 + length (encode t)) (n + 1 + size t))
+puts_spots c m (res a t) i n xs ys e = ahead m (spots c (i + 2) (n + 1) t) xs (4 ∷ (a ∷ [])) (encode t ++ ys) (encode (written c m (n + 1) t) ++ ys)
+    (puts_spots c m t (i + 2) (n + 1) (xs ++ (4 ∷ (a ∷ []))) ys (simp length-append (omega arith)))
 
 -- of a whole record
-pub puts-written : (c : Node → Key → Bool) (m : Key) (n : Node) (t : Term) → puts m (encode t) (spots c 0 n t) ≡ encode (written c m n t)
-puts-written c m n t = rw (append-nil (encode t), append-nil (encode (written c m n t))) at (puts-spots c m t 0 n [] [] refl)
+pub puts_written : (c : Node → Key → Bool) (m : Key) (n : Node) (t : Term) → puts m (encode t) (spots c 0 n t) ≡ encode (written c m n t)
+puts_written c m n t = rw (append-nil (encode t), append-nil (encode (written c m n t))) at (puts_spots c m t 0 n [] [] refl)
 
 inside_both : (b : ℕ) (x y : List ℕ) → Inside b x → Inside b y → Inside b (x ++ y)
 inside_both b [] y u v = v
 inside_both b (i ∷ x) y u v = (u.0, inside_both b x y u.1 v)
 
 -- the spots of a term lie within its bytes
-pub spots-inside : (c : Node → Key → Bool) (b i n : ℕ) (t : Term) → i + length (encode t) ≤ b → Inside b (spots c i n t)
+pub spots_inside : (c : Node → Key → Bool) (b i n : ℕ) (t : Term) → i + length (encode t) ≤ b → Inside b (spots c i n t)
 unfolding spots encode
-spots-inside c b i n nil h = tt
-spots-inside c b i n (pre a k t) h = first (c n k) (spots-inside c b (i + 4) (n + 1) t (omega arith))
+spots_inside c b i n nil h = tt
+spots_inside c b i n (pre a k t) h = first (c n k) (spots_inside c b (i + 4) (n + 1) t (omega arith))
   where
     first : (x : Bool) → Inside b (spots c (i + 4) (n + 1) t) → Inside b (tick x i (spots c (i + 4) (n + 1) t))
     first true g = (omega arith, g)
     first false g = g
-spots-inside c b i n (cho t u) h = let g : i + suc (length (encode t) + length (encode u)) ≤ b = simp length-append at h in
-    inside_both b (spots c (i + 1) (n + 1) t) (spots c (i + 1 + length (encode t)) (n + 1 + size t) u) (spots-inside c b (i + 1) (n + 1) t (omega arith)) (spots-inside c b (i + 1 + length (encode t)) (n + 1 + size t) u (omega arith))
-spots-inside c b i n (par t u) h = let g : i + suc (length (encode t) + length (encode u)) ≤ b = simp length-append at h in
-    inside_both b (spots c (i + 1) (n + 1) t) (spots c (i + 1 + length (encode t)) (n + 1 + size t) u) (spots-inside c b (i + 1) (n + 1) t (omega arith)) (spots-inside c b (i + 1 + length (encode t)) (n + 1 + size t) u (omega arith))
-spots-inside c b i n (res a t) h = spots-inside c b (i + 2) (n + 1) t (omega arith)
+spots_inside c b i n (cho t u) h = let g : i + suc (length (encode t) + length (encode u)) ≤ b = simp length-append at h in
+    inside_both b (spots c (i + 1) (n + 1) t) (spots c (i + 1 + length (encode t)) (n + 1 + size t) u) (spots_inside c b (i + 1) (n + 1) t (omega arith)) (spots_inside c b (i + 1 + length (encode t)) (n + 1 + size t) u (omega arith))
+spots_inside c b i n (par t u) h = let g : i + suc (length (encode t) + length (encode u)) ≤ b = simp length-append at h in
+    inside_both b (spots c (i + 1) (n + 1) t) (spots c (i + 1 + length (encode t)) (n + 1 + size t) u) (spots_inside c b (i + 1) (n + 1) t (omega arith)) (spots_inside c b (i + 1 + length (encode t)) (n + 1 + size t) u (omega arith))
+spots_inside c b i n (res a t) h = spots_inside c b (i + 2) (n + 1) t (omega arith)
 
 pub shift-length : (k : ℕ) (x : List ℕ) → length (shift k x) ≡ length x
 unfolding shift

@@ -5,13 +5,13 @@ use Rattle.ccsk.specs.Place.{shift}
 use Rattle.format.specs.Encode.{encode}
 
 -- forward: node n is p, or it is q and q is not 0
-abbrev pub forward-choice : Node → Node → Node → Key → Bool
-forward-choice p zero n k = eqb n p
-forward-choice p (suc q) n k = eqb n p || eqb n (suc q)
+abbrev pub forward_choice : Node → Node → Node → Key → Bool
+forward_choice p zero n k = eqb n p
+forward_choice p (suc q) n k = eqb n p || eqb n (suc q)
 
 -- undo: the prefix holds m
-abbrev pub undo-choice : Key → Node → Key → Bool
-undo-choice m n k = eqb m k
+abbrev pub undo_choice : Key → Node → Key → Bool
+undo_choice m n k = eqb m k
 
 -- The chosen prefixes of a term whose root is node n, as node numbers counted from that root.
 unfoldable pub chosen : (Node → Key → Bool) → Node → Term → List Node

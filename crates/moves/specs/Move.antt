@@ -27,9 +27,9 @@ stands m (par t u) = stands m t || stands m u
 stands m (res a t) = stands m t
 
 -- the step, or stuck where the test asks for it
-abbrev pub stuckIf : Bool → Label → Move
-stuckIf true l = stuck
-stuckIf false l = step l
+abbrev pub stuck_if : Bool → Label → Move
+stuck_if true l = stuck
+stuck_if false l = step l
 
 -- a chosen prefix: it steps if it may and nothing below it holds a key or is chosen
 abbrev pub own : Bool → Bool → Label → Move → Move
@@ -46,46 +46,46 @@ pass true (step l) = step l
 pass false (step l) = stuck
 pass done stuck = stuck
 
-abbrev pub overPrefix : Bool → Bool → Bool → Bool → Label → Move → Move
-overPrefix true may done below a x = own may below a x
-overPrefix false may done below a x = pass done x
+abbrev pub move_over_prefix : Bool → Bool → Bool → Bool → Label → Move → Move
+move_over_prefix true may done below a x = own may below a x
+move_over_prefix false may done below a x = pass done x
 
 -- a choice passes the step of one side if the other side holds no key
-abbrev pub overChoice : Bool → Bool → Move → Move → Move
-overChoice left right still still = still
-overChoice left right (step l) still = stuckIf right l
-overChoice left right still (step l) = stuckIf left l
-overChoice left right (step l) (step k) = stuck
-overChoice left right (step l) stuck = stuck
-overChoice left right still stuck = stuck
-overChoice left right stuck x = stuck
+abbrev pub move_over_choice : Bool → Bool → Move → Move → Move
+move_over_choice left right still still = still
+move_over_choice left right (step l) still = stuck_if right l
+move_over_choice left right still (step l) = stuck_if left l
+move_over_choice left right (step l) (step k) = stuck
+move_over_choice left right (step l) stuck = stuck
+move_over_choice left right still stuck = stuck
+move_over_choice left right stuck x = stuck
 
-abbrev pub joinedIf : {A : Type 0} → Dec A → Move
-joinedIf (yes c) = step 0
-joinedIf (no c) = stuck
+abbrev pub joined_if : {A : Type 0} → Dec A → Move
+joined_if (yes c) = step 0
+joined_if (no c) = stuck
 
 -- a parallel passes the step of one side, or joins two with complementary labels
-abbrev pub overParallel : Move → Move → Move
-overParallel still x = x
-overParallel (step l) still = step l
-overParallel (step l) (step k) = joinedIf (co? l k)
-overParallel (step l) stuck = stuck
-overParallel stuck x = stuck
+abbrev pub move_over_parallel : Move → Move → Move
+move_over_parallel still x = x
+move_over_parallel (step l) still = step l
+move_over_parallel (step l) (step k) = joined_if (co? l k)
+move_over_parallel (step l) stuck = stuck
+move_over_parallel stuck x = stuck
 
-abbrev pub hiddenIf : {A : Type 0} → Dec A → Label → Move
-hiddenIf (yes o) l = stuck
-hiddenIf (no o) l = step l
+abbrev pub hidden_if : {A : Type 0} → Dec A → Label → Move
+hidden_if (yes o) l = stuck
+hidden_if (no o) l = step l
 
 -- a restriction stops a step on its name
-abbrev pub overRestriction : Name → Move → Move
-overRestriction a still = still
-overRestriction a (step l) = hiddenIf (on? a l) l
-overRestriction a stuck = stuck
+abbrev pub move_over_restriction : Name → Move → Move
+move_over_restriction a still = still
+move_over_restriction a (step l) = hidden_if (on? a l) l
+move_over_restriction a stuck = stuck
 
 -- The move of the term whose root is node n. A chosen prefix may step if its key is one that `may` takes.
 unfoldable pub move : (Node → Key → Bool) → (Key → Bool) → Node → Term → Move
 move c may n nil = still
-move c may n (pre a k t) = overPrefix (c n k) (may k) (not (eqb k 0)) (holds t) a (move c may (n + 1) t)
-move c may n (cho t u) = overChoice (holds t) (holds u) (move c may (n + 1) t) (move c may (n + 1 + size t) u)
-move c may n (par t u) = overParallel (move c may (n + 1) t) (move c may (n + 1 + size t) u)
-move c may n (res a t) = overRestriction a (move c may (n + 1) t)
+move c may n (pre a k t) = move_over_prefix (c n k) (may k) (not (eqb k 0)) (holds t) a (move c may (n + 1) t)
+move c may n (cho t u) = move_over_choice (holds t) (holds u) (move c may (n + 1) t) (move c may (n + 1 + size t) u)
+move c may n (par t u) = move_over_parallel (move c may (n + 1) t) (move c may (n + 1 + size t) u)
+move c may n (res a t) = move_over_restriction a (move c may (n + 1) t)

@@ -6,7 +6,7 @@ use native.Mathlib.Numerals.{add-one}
 use native.Mathlib.Omega.{arith}
 use lib.ListN.{length, get_or, set, take}
 use lib.Seq.{take-take, take_at, take-suc-set}
-use Rattle.format.specs.Limits.{node-limit}
+use Rattle.format.specs.Limits.{node_limit}
 use Rattle.lasts.specs.Last.{Last}
 use Rattle.noting.specs.Node.{rows}
 
@@ -39,16 +39,16 @@ rows_at (suc n) (k ∷ x) (a ∷ y) (s ∷ z) (suc i) d e f g h = rows_at n x y 
 
 module _ {A : Type 0} where
   -- cut back to what stood before
-  pub cut-back : (n l : ℕ) (x old new : List A) → length old ≡ n → n ≤ l → take l x ≡ old ++ new → take n x ≡ old
-  cut-back n l x old new e h q = sym (take-take n l x h) ∙ ap (take n) q ∙ take_at old new n e
+  pub cut_back : (n l : ℕ) (x old new : List A) → length old ≡ n → n ≤ l → take l x ≡ old ++ new → take n x ≡ old
+  cut_back n l x old new e h q = sym (take-take n l x h) ∙ ap (take n) q ∙ take_at old new n e
 
   -- one more
   pub push : (n : ℕ) (x old : List A) (a : A) → n < length x → take n x ≡ old → take (n + 1) (set x n a) ≡ old ++ (a ∷ [])
   push n x old a h q = rw (add-one n, take-suc-set x n a h, q)
 
 -- few enough rows
-pub few-rows : (l : ℕ) (x y z : List ℕ) → length x ≡ node-limit → length y ≡ node-limit → length z ≡ node-limit → l ≤ node-limit → l ≤ length (rows x y z)
-few-rows l x y z e f g h = omega (arith, rows-length node-limit x y z e f g)
+pub few_rows : (l : ℕ) (x y z : List ℕ) → length x ≡ node_limit → length y ≡ node_limit → length z ≡ node_limit → l ≤ node_limit → l ≤ length (rows x y z)
+few_rows l x y z e f g h = omega (arith, rows-length node_limit x y z e f g)
 
-pub next_row : (i : ℕ) (x y z : List ℕ) → length x ≡ node-limit → length y ≡ node-limit → length z ≡ node-limit → i < node-limit → i < length (rows x y z)
-next_row i x y z e f g h = omega (arith, rows-length node-limit x y z e f g)
+pub next_row : (i : ℕ) (x y z : List ℕ) → length x ≡ node_limit → length y ≡ node_limit → length z ≡ node_limit → i < node_limit → i < length (rows x y z)
+next_row i x y z e f g h = omega (arith, rows-length node_limit x y z e f g)

@@ -1,7 +1,7 @@
 // What one node of a record notes in lent arrays: its key, the scope of its name, and how many of the prefixes that can be last stay.
 ghost use Rattle.std.specs.Prelude.{◌≡◌, ◌+◌, ◌<◌, length, get_or};
-ghost use Rattle.format.specs.Limits.{node-limit};
-ghost use Rattle.noting.specs.Node.{rows, Enters, OverPrefix, over-two, closed};
+ghost use Rattle.format.specs.Limits.{node_limit};
+ghost use Rattle.noting.specs.Node.{rows, Enters, OverPrefix, noted_over_two, closed};
 
 use reader::{CHOICE, NODES, PREFIX, RESTRICTION};
 use shared::{NAMES, Name, key_of, slot, slot_of};
@@ -24,7 +24,7 @@ pub fn enter(
     scopes: &mut [u16; NAMES],
 ) -> Entered
     requires at_in_bounds { (kind ≡ 1 → at + 3 < length s.now) × (kind ≡ 4 → at + 1 < length s.now) }
-    requires n_lt_node_limit { (n < node-limit) × (keys < node-limit) × (length all.old ≡ node-limit) × (length scopes.old ≡ 128) }
+    requires n_lt_node_limit { (n < node_limit) × (keys < node_limit) × (length all.old ≡ node_limit) × (length scopes.old ≡ 128) }
     ensures { Enters s.now at kind n keys all.old all.new scopes.old scopes.new result }
 {
     if kind == PREFIX {
@@ -80,9 +80,9 @@ pub fn over_prefix(
     scope: &mut [u16; NODES],
     scopes: &[u16; NAMES],
 ) -> usize
-    requires at_in_bounds { (at + 3 < length s.now) × (lasts < node-limit) × (length scopes.now ≡ 128) }
-    requires key_len { (length key.old ≡ node-limit) × (length action.old ≡ node-limit) × (length scope.old ≡ node-limit) }
-    ensures { OverPrefix s.now at keys k lasts l (rows key.old action.old scope.old) scopes.now result (rows key.new action.new scope.new) × (length key.new ≡ node-limit) × (length action.new ≡ node-limit) × (length scope.new ≡ node-limit) }
+    requires at_in_bounds { (at + 3 < length s.now) × (lasts < node_limit) × (length scopes.now ≡ 128) }
+    requires key_len { (length key.old ≡ node_limit) × (length action.old ≡ node_limit) × (length scope.old ≡ node_limit) }
+    ensures { OverPrefix s.now at keys k lasts l (rows key.old action.old scope.old) scopes.now result (rows key.new action.new scope.new) × (length key.new ≡ node_limit) × (length action.new ≡ node_limit) × (length scope.new ≡ node_limit) }
 {
     let own = key_of(s[at + 2], s[at + 3]);
     if own == 0 {
@@ -99,7 +99,7 @@ pub fn over_prefix(
 
 // How many lasts stay when a choice or a parallel is left. There were k0 keys and l0 lasts before it, and k1 keys between its sides.
 pub fn over_two(kind: usize, k0: usize, k1: usize, k2: usize, l0: usize, l2: usize) -> usize
-    ensures { result ≡ over-two kind k0 k1 k2 l0 l2 }
+    ensures { result ≡ noted_over_two kind k0 k1 k2 l0 l2 }
 {
     if kind == CHOICE {
         if k1 == k0 {

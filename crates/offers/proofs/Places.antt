@@ -23,8 +23,8 @@ at_same n i f = (λ w. (w.0, w.1, (f w.0).0 w.2), λ w. (w.0, w.1, (f w.0).1 w.2
 pub at_one : {P Q : Node → Type 0} (n k m i : Node) → m ≡ n + k → ((q : Node) → P q ↔ At k Q q) → At n P i ↔ At m Q i
 at_one {Q = Q} n k m i e f = (λ w. (at_in Q n k m i e).0 (w.0, w.1, (f w.0).0 w.2), λ w. let y = (at_in Q n k m i e).1 w in (y.0, y.1, (f y.0).1 y.2))
 
-pub at-two : {P Q R : Node → Type 0} (n k m h j i : Node) → h ≡ n + k → j ≡ n + m → ((q : Node) → P q ↔ (At k Q q ⊎ At m R q)) → At n P i ↔ (At h Q i ⊎ At j R i)
-at-two {Q = Q} {R = R} n k m h j i d e f = (
+pub at_two_lem : {P Q R : Node → Type 0} (n k m h j i : Node) → h ≡ n + k → j ≡ n + m → ((q : Node) → P q ↔ (At k Q q ⊎ At m R q)) → At n P i ↔ (At h Q i ⊎ At j R i)
+at_two_lem {Q = Q} {R = R} n k m h j i d e f = (
   λ w. ⊎_elim (λ z. inl ((at_in Q n k h i d).0 (w.0, w.1, z))) (λ z. inr ((at_in R n m j i e).0 (w.0, w.1, z))) ((f w.0).0 w.2),
   λ w. ⊎_elim (λ z. let y = (at_in Q n k h i d).1 z in (y.0, y.1, (f y.0).1 (inl y.2))) (λ z. let y = (at_in R n m j i e).1 z in (y.0, y.1, (f y.0).1 (inr y.2))) w,
 )
@@ -37,8 +37,8 @@ at_own n i f = (λ w. let z = (f w.0).0 w.2 in (omega (arith, w.1, z.0), z.1), �
 abbrev pub Pair : Node → Node → (Node → Node → Type 0) → Node → Node → Type 0
 Pair n m R i j = At n (λ p. At m (R p) j) i
 
-pub pair-in : {S : Node → Node → Type 0} (R : Node → Node → Type 0) (n k l m h i j : Node) → m ≡ n + k → h ≡ n + l → ((p q : Node) → S p q ↔ Pair k l R p q) → Pair n n S i j ↔ Pair m h R i j
-pair-in R n k l m h i j d e f = (
+pub pair_in : {S : Node → Node → Type 0} (R : Node → Node → Type 0) (n k l m h i j : Node) → m ≡ n + k → h ≡ n + l → ((p q : Node) → S p q ↔ Pair k l R p q) → Pair n n S i j ↔ Pair m h R i j
+pair_in R n k l m h i j d e f = (
   λ w. let v = w.2 in let z = (f w.0 v.0).0 v.2 in let y = z.2 in (z.0, omega (arith, w.1, z.1), (y.0, omega (arith, v.1, y.1), y.2)),
   λ w. let v = w.2 in (k + w.0, omega (arith, w.1), (l + v.0, omega (arith, v.1), (f (k + w.0) (l + v.0)).1 (w.0, refl, (v.0, refl, v.2)))),
 )

@@ -8,13 +8,13 @@ use Rattle.ccsk.specs.Numbers.{LeastFree}
 use Rattle.ccsk.specs.Term.{Term, Label, Key, Node, Fsh, Co, keys, par, size}
 use Rattle.ccsk.specs.Step.{Forward, Forward.top, Forward.prefix, Forward.choice₁, Forward.choice₂, Forward.par₁, Forward.par₂, Forward.synch, Forward.restrict}
 use Rattle.ccsk.specs.Place.{shift, places, ForwardAt}
-use Rattle.ccsk.proofs.Basic.{tau-open}
-use Rattle.ccsk.proofs.Lists.{least-free}
+use Rattle.ccsk.proofs.Basic.{tau_open}
+use Rattle.ccsk.proofs.Lists.{least_free_lem}
 use Rattle.ccsk.proofs.Keys.{has_in}
-use Rattle.ccsk.proofs.Place.{co-pos}
+use Rattle.ccsk.proofs.Place.{co_pos}
 use Rattle.operations.specs.Order.{FreeStep}
 use Rattle.offers.specs.Offers.{Offers, Offers.top, Offers.prefix, Offers.choice₁, Offers.choice₂, Offers.par₁, Offers.par₂, Offers.restrict, Joins, Joins.prefix, Joins.choice₁, Joins.choice₂, Joins.par₁, Joins.par₂, Joins.synch, Joins.restrict, OffersAt, JoinsAt}
-use Rattle.offers.proofs.Parts.{offers-up, joins-up, offers-over, joins-over, splits-parallel}
+use Rattle.offers.proofs.Parts.{offers_up, joins_up, offers_over, joins_over, splits_parallel}
 
 -- the places of a derived step: one that offers the label, or two that join, with tau
 data Made (t : Term) (l : Label) : List Node → Type 0 where
@@ -28,26 +28,26 @@ lifted k f g (two {p = p} {q = q} z j) = two z (g (k + p) (k + q) (p, refl, (q, 
 
 met : {l k : Label} {t u : Term} {x y : List Node} → Co l k → Made t l x → Made u k y → Made (par t u) 0 (shift 1 x ++ shift (1 + size t) y)
 unfolding shift
-met {t = t} {u = u} c (one {p = p} o) (one {p = q} w) = two refl (((splits-parallel {t = t} {u = u}).joins (1 + p) (1 + size t + q)).1 (inr (inr (p, refl, (q, refl, (_, _, c, o, w))))))
-met c (one o) (two z j) = absurd (omega (arith, co-pos c))
-met c (two z j) w = absurd (omega (arith, co-pos c))
+met {t = t} {u = u} c (one {p = p} o) (one {p = q} w) = two refl (((splits_parallel {t = t} {u = u}).joins (1 + p) (1 + size t + q)).1 (inr (inr (p, refl, (q, refl, (_, _, c, o, w))))))
+met c (one o) (two z j) = absurd (omega (arith, co_pos c))
+met c (two z j) w = absurd (omega (arith, co_pos c))
 
 made : {t u : Term} {m : Key} {l : Label} (d : Forward t m l u) → Made t l (places d)
 unfolding places
 made (Forward.top h s) = one (Offers.top s)
-made (Forward.prefix h n d) = lifted 1 (λ q. offers-up (λ i o. Offers.prefix h o)) (λ p q. joins-up (λ i k j. Joins.prefix h j)) (made d)
-made (Forward.choice₁ s d) = lifted 1 (λ q. offers-up (λ i o. Offers.choice₁ s o)) (λ p q. joins-up (λ i k j. Joins.choice₁ s j)) (made d)
-made (Forward.choice₂ {t = t} s d) = lifted (1 + size t) (λ q. offers-over t (λ i e o. Offers.choice₂ e s o)) (λ p q. joins-over t (λ i k e f j. Joins.choice₂ e f s j)) (made d)
-made (Forward.par₁ f d) = lifted 1 (λ q. offers-up (λ i o. Offers.par₁ o)) (λ p q. joins-up (λ i k j. Joins.par₁ j)) (made d)
-made (Forward.par₂ {t = t} f d) = lifted (1 + size t) (λ q. offers-over t (λ i e o. Offers.par₂ e o)) (λ p q. joins-over t (λ i k e f j. Joins.par₂ e f j)) (made d)
+made (Forward.prefix h n d) = lifted 1 (λ q. offers_up (λ i o. Offers.prefix h o)) (λ p q. joins_up (λ i k j. Joins.prefix h j)) (made d)
+made (Forward.choice₁ s d) = lifted 1 (λ q. offers_up (λ i o. Offers.choice₁ s o)) (λ p q. joins_up (λ i k j. Joins.choice₁ s j)) (made d)
+made (Forward.choice₂ {t = t} s d) = lifted (1 + size t) (λ q. offers_over t (λ i e o. Offers.choice₂ e s o)) (λ p q. joins_over t (λ i k e f j. Joins.choice₂ e f s j)) (made d)
+made (Forward.par₁ f d) = lifted 1 (λ q. offers_up (λ i o. Offers.par₁ o)) (λ p q. joins_up (λ i k j. Joins.par₁ j)) (made d)
+made (Forward.par₂ {t = t} f d) = lifted (1 + size t) (λ q. offers_over t (λ i e o. Offers.par₂ e o)) (λ p q. joins_over t (λ i k e f j. Joins.par₂ e f j)) (made d)
 made (Forward.synch c d e) = met c (made d) (made e)
-made (Forward.restrict f d) = lifted 1 (λ q. offers-up (λ i o. Offers.restrict f o)) (λ p q. joins-up (λ i k j. Joins.restrict j)) (made d)
+made (Forward.restrict f d) = lifted 1 (λ q. offers_up (λ i o. Offers.restrict f o)) (λ p q. joins_up (λ i k j. Joins.restrict j)) (made d)
 
-un-one : {t : Term} {l : Label} {p : Node} → Made t l (p ∷ []) → Offers t p l
-un-one (one o) = o
+un_one : {t : Term} {l : Label} {p : Node} → Made t l (p ∷ []) → Offers t p l
+un_one (one o) = o
 
-un-two : {t : Term} {l : Label} {p q : Node} → Made t l (p ∷ (q ∷ [])) → (l ≡ 0) × Joins t p q
-un-two (two z j) = (z, j)
+un_two : {t : Term} {l : Label} {p q : Node} → Made t l (p ∷ (q ∷ [])) → (l ≡ 0) × Joins t p q
+un_two (two z j) = (z, j)
 
 -- and back: the rules, on steps at places
 module _ (m : Key) (pos : 0 < m) where
@@ -59,9 +59,9 @@ module _ (m : Key) (pos : 0 < m) where
   unfolding shift
   one_on k p i x e f = rw (e, f)
 
-  two-on : (k p q i j : Node) (x : List Node) → x ≡ p ∷ (q ∷ []) → i ≡ k + p → j ≡ k + q → shift k x ≡ i ∷ (j ∷ [])
+  two_on : (k p q i j : Node) (x : List Node) → x ≡ p ∷ (q ∷ []) → i ≡ k + p → j ≡ k + q → shift k x ≡ i ∷ (j ∷ [])
   unfolding shift
-  two-on k p q i j x e f g = rw (e, f, g)
+  two_on k p q i j x e f g = rw (e, f, g)
 
   offered : {t : Term} {p : Node} {l : Label} → Fsh m t → Offers t p l → Step t l (p ∷ [])
   unfolding places
@@ -75,14 +75,14 @@ module _ (m : Key) (pos : 0 < m) where
 
   joined : {t : Term} {p q : Node} → Fsh m t → Joins t p q → Step t 0 (p ∷ (q ∷ []))
   unfolding places
-  joined f (Joins.prefix {p = p} {q = q} h o) = let w = joined (λ z. f (inr z)) o in (_, Forward.prefix h (λ z. f (inl z)) w.1, two-on 1 p q (suc p) (suc q) _ w.2 (omega arith) (omega arith))
-  joined f (Joins.choice₁ {p = p} {q = q} s o) = let w = joined (λ z. f (inl z)) o in (_, Forward.choice₁ s w.1, two-on 1 p q (suc p) (suc q) _ w.2 (omega arith) (omega arith))
-  joined f (Joins.choice₂ {p = p} {q = q} {i = i} {j = j} {t = t} e g s o) = let w = joined (λ z. f (inr z)) o in (_, Forward.choice₂ s w.1, two-on (1 + size t) p q i j _ w.2 (omega arith) (omega arith))
-  joined f (Joins.par₁ {p = p} {q = q} o) = let w = joined (λ z. f (inl z)) o in (_, Forward.par₁ (λ z. f (inr z)) w.1, two-on 1 p q (suc p) (suc q) _ w.2 (omega arith) (omega arith))
-  joined f (Joins.par₂ {p = p} {q = q} {i = i} {j = j} {t = t} e g o) = let w = joined (λ z. f (inr z)) o in (_, Forward.par₂ (λ z. f (inl z)) w.1, two-on (1 + size t) p q i j _ w.2 (omega arith) (omega arith))
+  joined f (Joins.prefix {p = p} {q = q} h o) = let w = joined (λ z. f (inr z)) o in (_, Forward.prefix h (λ z. f (inl z)) w.1, two_on 1 p q (suc p) (suc q) _ w.2 (omega arith) (omega arith))
+  joined f (Joins.choice₁ {p = p} {q = q} s o) = let w = joined (λ z. f (inl z)) o in (_, Forward.choice₁ s w.1, two_on 1 p q (suc p) (suc q) _ w.2 (omega arith) (omega arith))
+  joined f (Joins.choice₂ {p = p} {q = q} {i = i} {j = j} {t = t} e g s o) = let w = joined (λ z. f (inr z)) o in (_, Forward.choice₂ s w.1, two_on (1 + size t) p q i j _ w.2 (omega arith) (omega arith))
+  joined f (Joins.par₁ {p = p} {q = q} o) = let w = joined (λ z. f (inl z)) o in (_, Forward.par₁ (λ z. f (inr z)) w.1, two_on 1 p q (suc p) (suc q) _ w.2 (omega arith) (omega arith))
+  joined f (Joins.par₂ {p = p} {q = q} {i = i} {j = j} {t = t} e g o) = let w = joined (λ z. f (inr z)) o in (_, Forward.par₂ (λ z. f (inl z)) w.1, two_on (1 + size t) p q i j _ w.2 (omega arith) (omega arith))
   joined f (Joins.synch {p = p} {q = q} {j = j} {t = t} e c o w) = let v = offered (λ z. f (inl z)) o in let x = offered (λ z. f (inr z)) w in
       (_, Forward.synch c v.1 x.1, rw (one_on 1 p (suc p) _ v.2 (omega arith), one_on (1 + size t) q j _ x.2 (omega arith)))
-  joined f (Joins.restrict {p = p} {q = q} o) = let w = joined f o in (_, Forward.restrict tau-open w.1, two-on 1 p q (suc p) (suc q) _ w.2 (omega arith) (omega arith))
+  joined f (Joins.restrict {p = p} {q = q} o) = let w = joined f o in (_, Forward.restrict tau_open w.1, two_on 1 p q (suc p) (suc q) _ w.2 (omega arith) (omega arith))
 
 -- for the least free key
 module _ (t : Term) where
@@ -93,15 +93,15 @@ module _ (t : Term) where
   made_at : {x : List Node} {m : Key} {l : Label} → (w : ForwardAt t m x) → w.0 ≡ l → Made t l x
   made_at w e = rw e at (rw w.3 at (made w.2))
 
-  pub free-alone : (p : Node) (l : Label) → FreeStep t p 0 l ↔ Offers t p l
-  free-alone p l = (
-    λ w. un-one (made_at w.2.0 w.2.1),
-    λ o. let k = least-free (keys t) in let w = offered k.0 k.2.pos (fresh k.0 k.2) o in (k.0, k.2, ((l, w.0, w.1, w.2), refl)),
+  pub free_alone : (p : Node) (l : Label) → FreeStep t p 0 l ↔ Offers t p l
+  free_alone p l = (
+    λ w. un_one (made_at w.2.0 w.2.1),
+    λ o. let k = least_free_lem (keys t) in let w = offered k.0 k.2.pos (fresh k.0 k.2) o in (k.0, k.2, ((l, w.0, w.1, w.2), refl)),
   )
 
-  pub free-joined : (p q : Node) (l : Label) → 0 < q → FreeStep t p q l ↔ ((l ≡ 0) × Joins t p q)
-  free-joined p zero l h = absurd (omega arith)
-  free-joined p (suc q) l h = (
-    λ w. un-two (made_at w.2.0 w.2.1),
-    λ o. let k = least-free (keys t) in let w = joined k.0 k.2.pos (fresh k.0 k.2) o.1 in (k.0, k.2, ((0, w.0, w.1, w.2), sym o.0)),
+  pub free_joined : (p q : Node) (l : Label) → 0 < q → FreeStep t p q l ↔ ((l ≡ 0) × Joins t p q)
+  free_joined p zero l h = absurd (omega arith)
+  free_joined p (suc q) l h = (
+    λ w. un_two (made_at w.2.0 w.2.1),
+    λ o. let k = least_free_lem (keys t) in let w = joined k.0 k.2.pos (fresh k.0 k.2) o.1 in (k.0, k.2, ((0, w.0, w.1, w.2), sym o.0)),
   )

@@ -20,9 +20,9 @@ choose_no (yes a) x y i = absurd (i a)
 choose_no (no a) x y i = refl
 
 -- one answer for a refusal, one for a term that was read
-abbrev pub onRead : {X : Type 0} → Opened → (ℕ → X) → (Term → X) → X
-onRead (refused c) f g = f c
-onRead (opened t) f g = g t
+abbrev pub on_read : {X : Type 0} → Opened → (ℕ → X) → (Term → X) → X
+on_read (refused c) f g = f c
+on_read (opened t) f g = g t
 
 -- refusal number, label or count, bytes or row afterwards
 abbrev pub Answer : Type 0

@@ -11,7 +11,7 @@ use Rattle.ccsk.specs.Decide.{channel?, co?}
 use Rattle.ccsk.specs.Place.{shift, places}
 use Rattle.ccsk.proofs.Basic.{has?}
 use Rattle.ccsk.proofs.Decide.{std?}
-use Rattle.ccsk.proofs.ForwardDec.{forward?, do-zero, do-pre, do-cho, do-par, do-res, below?, unshift, zero?}
+use Rattle.ccsk.proofs.ForwardDec.{forward?, do_zero, do_pre, do_cho, do_par, do_res, below?, unshift, zero?}
 use Rattle.ccsk.proofs.UndoDec.{undo?}
 use Rattle.sound.specs.Sound.{Before}
 use Rattle.format.specs.Read.{decode, read, node, kind_of, finish}
@@ -22,33 +22,33 @@ use Rattle.operations.specs.Ask.{Filled}
 use Rattle.operations.specs.Runs.{ForwardRun, UndoRun, KeyIn, HoldsAt}
 use Rattle.operations.proofs.Choose.{Fit}
 use Rattle.operations.proofs.Places.{places?, prefix?}
-use Rattle.operations.proofs.ChangeOnce.{forward-answer, forward-of, undo-answer, undo-of, blank-answer, blank-some}
-use Rattle.operations.proofs.RowOnce.{link-waits}
-use Rattle.operations.proofs.Marked.{forward-computed, undo-computed, beside, one}
+use Rattle.operations.proofs.ChangeOnce.{forward_answer, forward_of, undo_answer, undo_of, blank_answer, blank_some}
+use Rattle.operations.proofs.RowOnce.{link_waits}
+use Rattle.operations.proofs.Marked.{forward_computed, undo_computed, beside, one}
 
 -- one place, and two
-as-places : (pair 2 0 ≡ 2 ∷ []) × (pair 2 4 ≡ 2 ∷ (4 ∷ []))
-as-places = (refl, refl)
+as_places : (pair 2 0 ≡ 2 ∷ []) × (pair 2 4 ≡ 2 ∷ (4 ∷ []))
+as_places = (refl, refl)
 
 -- (2, 0) comes before (2, 4), and (2, 4) before (3, 0)
 in_order : AtOrAfter 2 0 2 4 × AtOrAfter 2 4 3 0
 in_order = (inr (refl, omega arith), inl (omega arith))
 
 -- a[1].b[2].0
-abbrev two-done : Term
-two-done = pre 1 1 (pre 2 2 nil)
+abbrev two_done : Term
+two_done = pre 1 1 (pre 2 2 nil)
 
-both-prefixes : ArePlaces two-done 0 1
-both-prefixes = (tt, tt, omega arith)
+both_prefixes : ArePlaces two_done 0 1
+both_prefixes = (tt, tt, omega arith)
 
-one-above-two : Before two-done 1 2
-one-above-two = (omega arith, omega arith, (λ e. omega arith), inl (refl, inl refl))
+one_above_two : Before two_done 1 2
+one_above_two = (omega arith, omega arith, (λ e. omega arith), inl (refl, inl refl))
 
-one-waits-for-two : WaitsFor two-done 1 2
-one-waits-for-two = link-waits two-done 1 2 one-above-two
+one_waits_for_two : WaitsFor two_done 1 2
+one_waits_for_two = link_waits two_done 1 2 one_above_two
 
-holds-two : HoldsAt 2 1 two-done
-holds-two = refl
+holds_two : HoldsAt 2 1 two_done
+holds_two = refl
 
 -- 2 goes to the front of a row of two, and is refused by a row of none
 filled_row : Filled (2 ∷ []) (7 ∷ (8 ∷ [])) 0 1 (2 ∷ (8 ∷ []))
@@ -64,21 +64,21 @@ apart = beside (one 1 0) (one 129 0)
 abbrev shared : List ℕ
 shared = beside (one 1 1) (one 129 1)
 
-blank-computed : {s b : List ℕ} {r n : ℕ} → blank-answer s ≡ (r, n, b) → BlankForm s r n b
-blank-computed {s} {b} {r} {n} e = let f : Fit (BlankForm s) (r, n, b) = rw e at (blank-some s) in f
+blank_computed : {s b : List ℕ} {r n : ℕ} → blank_answer s ≡ (r, n, b) → BlankForm s r n b
+blank_computed {s} {b} {r} {n} e = let f : Fit (BlankForm s) (r, n, b) = rw e at (blank_some s) in f
 
 -- its blank form, with one key removed; of no bytes, refusal 1
 blanked : BlankForm shared 0 1 apart × BlankForm [] 1 0 []
-unfolding decode read node kind_of finish encode blank-answer blank keys distinct in? ℕ_discrete
-blanked = (blank-computed refl, blank-computed refl)
+unfolding decode read node kind_of finish encode blank_answer blank keys distinct in? ℕ_discrete
+blanked = (blank_computed refl, blank_computed refl)
 
 together : ForwardStep apart 1 3 1 0 0 shared
-unfolding decode read node kind_of finish encode forward-answer forward-of places? prefix? forward? do-zero do-pre do-cho do-par do-res below? unshift zero? size shift places has? std? co? channel? dec_le dec_lt ℕ_discrete
-together = forward-computed refl
+unfolding decode read node kind_of finish encode forward_answer forward_of places? prefix? forward? do_zero do_pre do_cho do_par do_res below? unshift zero? size shift places has? std? co? channel? dec_le dec_lt ℕ_discrete
+together = forward_computed refl
 
 taken_back : UndoStep shared 1 0 0 apart
-unfolding decode read node kind_of finish encode undo-answer undo-of undo? has? std? co? channel? dec_le ℕ_discrete
-taken_back = undo-computed refl
+unfolding decode read node kind_of finish encode undo_answer undo_of undo? has? std? co? channel? dec_le ℕ_discrete
+taken_back = undo_computed refl
 
 there : ForwardRun apart shared
 there = ForwardRun.then {m = 1} ForwardRun.stay (omega arith) together
@@ -86,6 +86,6 @@ there = ForwardRun.then {m = 1} ForwardRun.stay (omega arith) together
 back : UndoRun (1 ∷ []) shared apart
 back = UndoRun.then taken_back UndoRun.stay
 
-one-stands : KeyIn 1 shared
+one_stands : KeyIn 1 shared
 unfolding decode read node kind_of finish
-one-stands = (par (pre 1 1 nil) (pre 129 1 nil), refl, omega arith, inl (inl refl))
+one_stands = (par (pre 1 1 nil) (pre 129 1 nil), refl, omega arith, inl (inl refl))

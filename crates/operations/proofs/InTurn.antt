@@ -9,42 +9,42 @@ use Rattle.ccsk.specs.Numbers.{In, in?, distinct, Lists}
 use Rattle.ccsk.specs.Term.{Term, Key, Has, Fsh, keys}
 use Rattle.ccsk.specs.Step.{Undoable}
 use Rattle.ccsk.specs.Decide.{both}
-use Rattle.ccsk.proofs.Clear.{clear, undo-clears}
+use Rattle.ccsk.proofs.Clear.{clear, undo_clears}
 use Rattle.ccsk.proofs.Keys.{has_in}
-use Rattle.ccsk.proofs.Undo.{key-pos, present}
+use Rattle.ccsk.proofs.Undo.{key_pos, present}
 use Rattle.ccsk.proofs.UndoDec.{undo?}
 use Rattle.sound.specs.Run.{Undos}
-use Rattle.sound.proofs.Taken.{undos-left, undos-distinct}
+use Rattle.sound.proofs.Taken.{undos_left, undos_distinct}
 use Rattle.operations.specs.TakeBack.{Next, InTurn}
-use Rattle.operations.proofs.Lists.{above, pass, lists-some}
+use Rattle.operations.proofs.Lists.{above, pass, lists_some}
 
 -- undos in turn are a run of undos
-pub turn-undos : {goes : Key → Type 0} {ks : List Key} {t u : Term} → InTurn goes ks t u → Undos ks t u
-turn-undos (InTurn.all-gone f) = Undos.stay
-turn-undos (InTurn.then n d r) = Undos.then d (turn-undos r)
+pub turn_undos : {goes : Key → Type 0} {ks : List Key} {t u : Term} → InTurn goes ks t u → Undos ks t u
+turn_undos (InTurn.all-gone f) = Undos.stay
+turn_undos (InTurn.then n d r) = Undos.then d (turn_undos r)
 
 -- only keys that go are undone
-pub turn-goes : {goes : Key → Type 0} {ks : List Key} {t u : Term} (k : Key) → InTurn goes ks t u → In k ks → goes k
-turn-goes k (InTurn.all-gone f) i = absurd i
-turn-goes k (InTurn.then n d r) (inl e) = rw e n.still
-turn-goes k (InTurn.then n d r) (inr i) = turn-goes k r i
+pub turn_goes : {goes : Key → Type 0} {ks : List Key} {t u : Term} (k : Key) → InTurn goes ks t u → In k ks → goes k
+turn_goes k (InTurn.all-gone f) i = absurd i
+turn_goes k (InTurn.then n d r) (inl e) = rw e n.still
+turn_goes k (InTurn.then n d r) (inr i) = turn_goes k r i
 
 -- afterwards none that goes is left
-pub turn-ends : {goes : Key → Type 0} {ks : List Key} {t u : Term} (k : Key) → InTurn goes ks t u → goes k → Fsh k u
-turn-ends k (InTurn.all-gone f) g = f k g
-turn-ends k (InTurn.then n d r) g = turn-ends k r g
+pub turn_ends : {goes : Key → Type 0} {ks : List Key} {t u : Term} (k : Key) → InTurn goes ks t u → goes k → Fsh k u
+turn_ends k (InTurn.all-gone f) g = f k g
+turn_ends k (InTurn.then n d r) g = turn_ends k r g
 
 -- every key that goes and stands there is undone
-pub turn-all : {goes : Key → Type 0} {ks : List Key} {t u : Term} (k : Key) → InTurn goes ks t u → 0 < k → goes k → Has k t → In k ks
-turn-all {goes} {ks} {t} {u} k r p g h = pick (in? k ks)
+pub turn_all : {goes : Key → Type 0} {ks : List Key} {t u : Term} (k : Key) → InTurn goes ks t u → 0 < k → goes k → Has k t → In k ks
+turn_all {goes} {ks} {t} {u} k r p g h = pick (in? k ks)
   where
     pick : Dec (In k ks) → In k ks
     pick (yes i) = i
-    pick (no f) = absurd (turn-ends k r g ((undos-left k (turn-undos r) p).1 (h, f)))
+    pick (no f) = absurd (turn_ends k r g ((undos_left k (turn_undos r) p).1 (h, f)))
 
 -- no more undos than keys
-pub turn-few : {goes : Key → Type 0} {ks : List Key} {t u : Term} → InTurn goes ks t u → length ks ≤ distinct (keys t)
-turn-few r = omega (arith, undos-distinct (turn-undos r))
+pub turn_few : {goes : Key → Type 0} {ks : List Key} {t u : Term} → InTurn goes ks t u → length ks ≤ distinct (keys t)
+turn_few r = omega (arith, undos_distinct (turn_undos r))
 
 -- one key undone, and the rest
 abbrev pub onward : Term → (Term → List Key × Term) → List Key → List Key × Term
@@ -57,9 +57,9 @@ module _ (goes : Key → Type 0) (goes? : (k : Key) → Dec (goes k)) where
   ready t = pass (λ k. goes k × Undoable t k) (λ k. both (goes? k) (undo? t k)) (keys t)
 
   -- they are listed, ascending
-  pub ready-listed : (t : Term) → Lists (λ k. goes k × Undoable t k) (ready t)
+  pub ready_listed : (t : Term) → Lists (λ k. goes k × Undoable t k) (ready t)
   unfolding ready
-  ready-listed t = lists-some (λ k. goes k × Undoable t k) (λ k. both (goes? k) (undo? t k)) (keys t) (λ k h w. has_in k t h (present w.1.2))
+  ready_listed t = lists_some (λ k. goes k × Undoable t k) (λ k. both (goes? k) (undo? t k)) (keys t) (λ k h w. has_in k t h (present w.1.2))
 
   -- f times the first of them undone
   unfoldable pub turn : ℕ → Term → List Key × Term
@@ -67,28 +67,28 @@ module _ (goes : Key → Type 0) (goes? : (k : Key) → Dec (goes k)) where
   turn (suc f) t = onward t (turn f) (ready t)
 
   -- where all have gone it is empty, and else the next key stands first
-  none-ready : (t : Term) → ((k : Key) → goes k → Fsh k t) → ready t ≡ []
-  none-ready t f = pick (ready t) (ready-listed t)
+  none_ready : (t : Term) → ((k : Key) → goes k → Fsh k t) → ready t ≡ []
+  none_ready t f = pick (ready t) (ready_listed t)
     where
       pick : (l : List Key) → Lists (λ k. goes k × Undoable t k) l → l ≡ []
       pick [] o = refl
       pick (k ∷ l) o = let w = ((o.1 k).0 (inl refl)).1 in absurd (f k w.0 (present w.1.2))
 
-  first-ready : (t : Term) (k : Key) → Next goes t k → (l : List Key) × (ready t ≡ k ∷ l)
-  first-ready t k n = pick (ready t) (ready-listed t)
+  first_ready : (t : Term) (k : Key) → Next goes t k → (l : List Key) × (ready t ≡ k ∷ l)
+  first_ready t k n = pick (ready t) (ready_listed t)
     where
       pick : (l : List Key) → Lists (λ k. goes k × Undoable t k) l → (x : List Key) × (l ≡ k ∷ x)
-      pick [] o = absurd ((o.1 k).1 (key-pos n.allowed.2, (n.still, n.allowed)))
-      pick (j ∷ l) o = (l, ap (λ z. z ∷ l) (least ((o.1 k).1 (key-pos n.allowed.2, (n.still, n.allowed)))))
+      pick [] o = absurd ((o.1 k).1 (key_pos n.allowed.2, (n.still, n.allowed)))
+      pick (j ∷ l) o = (l, ap (λ z. z ∷ l) (least ((o.1 k).1 (key_pos n.allowed.2, (n.still, n.allowed)))))
         where
           least : In k (j ∷ l) → j ≡ k
           least (inl e) = sym e
           least (inr i) = let w = ((o.1 j).0 (inl refl)).1 in absurd (omega (arith, above j l o.0.1 k i, n.least j w.0 w.1))
 
   -- whatever is undone in turn is the run computed
-  pub turn-only : (f : ℕ) {ks : List Key} {t u : Term} → InTurn goes ks t u → length ks ≤ f → turn f t ≡ (ks, u)
+  pub turn_only : (f : ℕ) {ks : List Key} {t u : Term} → InTurn goes ks t u → length ks ≤ f → turn f t ≡ (ks, u)
   unfolding turn
-  turn-only zero (InTurn.all-gone g) h = refl
-  turn-only zero (InTurn.then n d r) h = absurd (omega arith)
-  turn-only (suc f) (InTurn.all-gone {t = t} g) h = rw (none-ready t g)
-  turn-only (suc f) (InTurn.then {t = t} {k = k} n d r) h = rw ((first-ready t k n).1, undo-clears d, turn-only f r (omega arith))
+  turn_only zero (InTurn.all-gone g) h = refl
+  turn_only zero (InTurn.then n d r) h = absurd (omega arith)
+  turn_only (suc f) (InTurn.all-gone {t = t} g) h = rw (none_ready t g)
+  turn_only (suc f) (InTurn.then {t = t} {k = k} n d r) h = rw ((first_ready t k n).1, undo_clears d, turn_only f r (omega arith))

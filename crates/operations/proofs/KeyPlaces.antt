@@ -12,11 +12,11 @@ use Rattle.ccsk.specs.Numbers.{In}
 use Rattle.ccsk.specs.Term.{Term, Label, Key, Node, nil, pre, cho, par, res, Std, Has, size}
 use Rattle.ccsk.specs.Step.{Forward, Forward.top, Forward.prefix, Forward.choice₁, Forward.choice₂, Forward.par₁, Forward.par₂, Forward.synch, Forward.restrict}
 use Rattle.ccsk.specs.Place.{shift, places}
-use Rattle.ccsk.proofs.Basic.{std-has}
+use Rattle.ccsk.proofs.Basic.{std_has}
 use Rattle.ccsk.proofs.Lists.{in_left, in_right, in_either}
-use Rattle.ccsk.proofs.Loop.{undo-of-forward}
-use Rattle.ccsk.proofs.Undo.{key-pos, blank-kept}
-use Rattle.ccsk.proofs.Place.{Under, places-under}
+use Rattle.ccsk.proofs.Loop.{undo_of_forward}
+use Rattle.ccsk.proofs.Undo.{key_pos, blank_kept}
+use Rattle.ccsk.proofs.Place.{Under, places_under}
 use Rattle.operations.specs.Runs.{HoldsAt}
 use Rattle.operations.proofs.Kept.{same_shape}
 
@@ -26,10 +26,10 @@ unfolding shift
 shift_in k p [] = (λ i. absurd i, λ i. i.1)
 shift_in k p (a ∷ x) = let r = shift_in k p x in (⊎_elim (λ e. (omega arith, inl (omega arith))) (λ i. ((r.0 i).0, inr (r.0 i).1)), λ i. ⊎_elim (λ e. inl (omega (arith, i.0))) (λ j. inr (r.1 (i.0, j))) i.1)
 
-under-in : (n p : ℕ) (x : List ℕ) → Under n x → In p x → p < n
-under-in n p [] u i = absurd i
-under-in n p (a ∷ x) u (inl e) = omega (arith, u.0)
-under-in n p (a ∷ x) u (inr i) = under-in n p x u.1 i
+under_in : (n p : ℕ) (x : List ℕ) → Under n x → In p x → p < n
+under_in n p [] u i = absurd i
+under_in n p (a ∷ x) u (inl e) = omega (arith, u.0)
+under_in n p (a ∷ x) u (inr i) = under_in n p x u.1 i
 
 -- one child: node p of it is node 1 + p of the whole
 below : (p : ℕ) (x : List ℕ) {L : Type 0} → L ↔ In p x → L ↔ In (suc p) (shift 1 x)
@@ -52,14 +52,14 @@ beside p n x y {L} {R} u l r = pick (dec_lt p n)
     )
     pick (no h) = rw (le-ltb p n (omega arith)) (
       λ a. in_right (suc p) (shift 1 x) (shift (1 + n) y) ((shift_in (1 + n) (suc p) y).1 (omega arith, rw e (r.0 a))),
-      λ i. ⊎_elim (λ j. absurd (h (under-in n p x u (rw (one p) at ((shift_in 1 (suc p) x).0 j).1)))) (λ j. r.1 (rw e at ((shift_in (1 + n) (suc p) y).0 j).1)) (in_either (suc p) (shift 1 x) (shift (1 + n) y) i),
+      λ i. ⊎_elim (λ j. absurd (h (under_in n p x u (rw (one p) at ((shift_in 1 (suc p) x).0 j).1)))) (λ j. r.1 (rw e at ((shift_in (1 + n) (suc p) y).0 j).1)) (in_either (suc p) (shift 1 x) (shift (1 + n) y) i),
     )
       where
         one : (p : ℕ) → suc p - 1 ≡ p
         one p = omega arith
 
-root-two : (n : ℕ) (x y : List ℕ) → ¬ In 0 (shift 1 x ++ shift (1 + n) y)
-root-two n x y i = ⊎_elim (root x) (λ j. omega (arith, ((shift_in (1 + n) 0 y).0 j).0)) (in_either 0 (shift 1 x) (shift (1 + n) y) i)
+root_two : (n : ℕ) (x y : List ℕ) → ¬ In 0 (shift 1 x ++ shift (1 + n) y)
+root_two n x y i = ⊎_elim (root x) (λ j. omega (arith, ((shift_in (1 + n) 0 y).0 j).0)) (in_either 0 (shift 1 x) (shift (1 + n) y) i)
 
 -- a key that stands at a node stands in the term
 one_of : (b : Bool) {A B C : Type 0} → (A → C) → (B → C) → cond b A B → C
@@ -82,26 +82,26 @@ nowhere : (m : Key) (p : Node) (t : Term) → ¬ Has m t → HoldsAt m p t ↔ I
 nowhere m p t f = (λ i. f (holds_has m p t i), λ i. absurd i)
 
 size_step : {t u : Term} {m : Key} {l : Label} → Forward t m l u → size u ≡ size t
-size_step {t} {u} d = (same_shape u t (blank-kept (undo-of-forward d))).0
+size_step {t} {u} d = (same_shape u t (blank_kept (undo_of_forward d))).0
 
-fresh-std : (t : Term) {u v : Term} {m : Key} {l : Label} → Std t → Forward u m l v → ¬ Has m t
-fresh-std t s d = std-has t s (key-pos (undo-of-forward d))
+fresh_std : (t : Term) {u v : Term} {m : Key} {l : Label} → Std t → Forward u m l v → ¬ Has m t
+fresh_std t s d = std_has t s (key_pos (undo_of_forward d))
 
-pub key-at-places : {t u : Term} {m : Key} {l : Label} (d : Forward t m l u) (p : Node) → HoldsAt m p u ↔ In p (places d)
+pub key_at_places : {t u : Term} {m : Key} {l : Label} (d : Forward t m l u) (p : Node) → HoldsAt m p u ↔ In p (places d)
 unfolding places shift
-key-at-places (top h s) zero = (λ e. inl refl, λ i. refl)
-key-at-places (top {m = m} {t = t} h s) (suc p) = (λ i. absurd (std-has t s h (holds_has m p t i)), λ i. ⊎_elim (λ e. absurd (omega arith)) (λ j. absurd j) i)
-key-at-places (prefix h n d) zero = (λ e. absurd (n e), λ i. absurd (root (places d) i))
-key-at-places (prefix h n d) (suc p) = below p (places d) (key-at-places d p)
-key-at-places (choice₁ s d) zero = (λ e. absurd e, λ i. absurd (root (places d) i))
-key-at-places (choice₁ {m = m} {t = t} {u = v} s d) (suc p) = rw (size_step d, ← append-nil (shift 1 (places d))) (beside p (size t) (places d) [] (places-under d) (key-at-places d p) (nowhere m (p - size t) v (fresh-std v s d)))
-key-at-places (choice₂ {t = t} s d) zero = (λ e. absurd e, λ i. absurd (root-two (size t) [] (places d) i))
-key-at-places (choice₂ {m = m} {t = t} s d) (suc p) = beside p (size t) [] (places d) tt (nowhere m p t (fresh-std t s d)) (key-at-places d (p - size t))
-key-at-places (par₁ f d) zero = (λ e. absurd e, λ i. absurd (root (places d) i))
-key-at-places (par₁ {m = m} {t = t} {u = v} f d) (suc p) = rw (size_step d, ← append-nil (shift 1 (places d))) (beside p (size t) (places d) [] (places-under d) (key-at-places d p) (nowhere m (p - size t) v f))
-key-at-places (par₂ {t = t} f d) zero = (λ e. absurd e, λ i. absurd (root-two (size t) [] (places d) i))
-key-at-places (par₂ {m = m} {t = t} f d) (suc p) = beside p (size t) [] (places d) tt (nowhere m p t f) (key-at-places d (p - size t))
-key-at-places (synch {t = t} c d e) zero = (λ z. absurd z, λ i. absurd (root-two (size t) (places d) (places e) i))
-key-at-places (synch {t = t} c d e) (suc p) = rw (size_step d) (beside p (size t) (places d) (places e) (places-under d) (key-at-places d p) (key-at-places e (p - size t)))
-key-at-places (restrict f d) zero = (λ e. absurd e, λ i. absurd (root (places d) i))
-key-at-places (restrict f d) (suc p) = below p (places d) (key-at-places d p)
+key_at_places (top h s) zero = (λ e. inl refl, λ i. refl)
+key_at_places (top {m = m} {t = t} h s) (suc p) = (λ i. absurd (std_has t s h (holds_has m p t i)), λ i. ⊎_elim (λ e. absurd (omega arith)) (λ j. absurd j) i)
+key_at_places (prefix h n d) zero = (λ e. absurd (n e), λ i. absurd (root (places d) i))
+key_at_places (prefix h n d) (suc p) = below p (places d) (key_at_places d p)
+key_at_places (choice₁ s d) zero = (λ e. absurd e, λ i. absurd (root (places d) i))
+key_at_places (choice₁ {m = m} {t = t} {u = v} s d) (suc p) = rw (size_step d, ← append-nil (shift 1 (places d))) (beside p (size t) (places d) [] (places_under d) (key_at_places d p) (nowhere m (p - size t) v (fresh_std v s d)))
+key_at_places (choice₂ {t = t} s d) zero = (λ e. absurd e, λ i. absurd (root_two (size t) [] (places d) i))
+key_at_places (choice₂ {m = m} {t = t} s d) (suc p) = beside p (size t) [] (places d) tt (nowhere m p t (fresh_std t s d)) (key_at_places d (p - size t))
+key_at_places (par₁ f d) zero = (λ e. absurd e, λ i. absurd (root (places d) i))
+key_at_places (par₁ {m = m} {t = t} {u = v} f d) (suc p) = rw (size_step d, ← append-nil (shift 1 (places d))) (beside p (size t) (places d) [] (places_under d) (key_at_places d p) (nowhere m (p - size t) v f))
+key_at_places (par₂ {t = t} f d) zero = (λ e. absurd e, λ i. absurd (root_two (size t) [] (places d) i))
+key_at_places (par₂ {m = m} {t = t} f d) (suc p) = beside p (size t) [] (places d) tt (nowhere m p t f) (key_at_places d (p - size t))
+key_at_places (synch {t = t} c d e) zero = (λ z. absurd z, λ i. absurd (root_two (size t) (places d) (places e) i))
+key_at_places (synch {t = t} c d e) (suc p) = rw (size_step d) (beside p (size t) (places d) (places e) (places_under d) (key_at_places d p) (key_at_places e (p - size t)))
+key_at_places (restrict f d) zero = (λ e. absurd e, λ i. absurd (root (places d) i))
+key_at_places (restrict f d) (suc p) = below p (places d) (key_at_places d p)

@@ -9,7 +9,7 @@ use Rattle.ccsk.proofs.Basic.{has?}
 use Rattle.ccsk.specs.Without.{without}
 use Rattle.ccsk.specs.Decide.{channel?, co?, on?}
 use Rattle.ccsk.proofs.Decide.{std?}
-use Rattle.ccsk.proofs.ForwardDec.{forward?, do-zero, do-pre, do-cho, do-par, do-res, below?, unshift, zero?}
+use Rattle.ccsk.proofs.ForwardDec.{forward?, do_zero, do_pre, do_cho, do_par, do_res, below?, unshift, zero?}
 use Rattle.ccsk.proofs.UndoDec.{undo?}
 use Rattle.sound.proofs.Peel.{acyclic?, peel, look, find, empty}
 use Rattle.sound.proofs.Top.{above?, before?, ordered?}
@@ -20,18 +20,18 @@ use Rattle.operations.specs.Change.{ForwardStep, UndoStep}
 use Rattle.operations.specs.Ask.{Soundness}
 use Rattle.operations.proofs.Choose.{Fit}
 use Rattle.operations.proofs.Places.{places?, prefix?}
-use Rattle.operations.proofs.ChangeOnce.{forward-answer, forward-of, forward-some, undo-answer, undo-of, undo-step-some}
-use Rattle.operations.proofs.NumberOnce.{FitNumber, sound-answer, sound-some}
+use Rattle.operations.proofs.ChangeOnce.{forward_answer, forward_of, forward_some, undo_answer, undo_of, undo_step_some}
+use Rattle.operations.proofs.NumberOnce.{FitNumber, sound_answer, sound_some}
 
 -- an answer that is computed fits the promise
-pub forward-computed : {s b : List ℕ} {p q : Node} {m : Key} {r : ℕ} {l : Label} → forward-answer s p q m ≡ (r, l, b) → ForwardStep s p q m r l b
-forward-computed {s} {b} {p} {q} {m} {r} {l} e = let f : Fit (ForwardStep s p q m) (r, l, b) = rw e at (forward-some s p q m) in f
+pub forward_computed : {s b : List ℕ} {p q : Node} {m : Key} {r : ℕ} {l : Label} → forward_answer s p q m ≡ (r, l, b) → ForwardStep s p q m r l b
+forward_computed {s} {b} {p} {q} {m} {r} {l} e = let f : Fit (ForwardStep s p q m) (r, l, b) = rw e at (forward_some s p q m) in f
 
-pub undo-computed : {s b : List ℕ} {m : Key} {r : ℕ} {l : Label} → undo-answer s m ≡ (r, l, b) → UndoStep s m r l b
-undo-computed {s} {b} {m} {r} {l} e = let f : Fit (UndoStep s m) (r, l, b) = rw e at (undo-step-some s m) in f
+pub undo_computed : {s b : List ℕ} {m : Key} {r : ℕ} {l : Label} → undo_answer s m ≡ (r, l, b) → UndoStep s m r l b
+undo_computed {s} {b} {m} {r} {l} e = let f : Fit (UndoStep s m) (r, l, b) = rw e at (undo_step_some s m) in f
 
-pub sound-computed : {s : List ℕ} {r v : ℕ} → sound-answer s ≡ (r, v) → Soundness s r v
-sound-computed {s} {r} {v} e = let f : FitNumber (Soundness s) (r, v) = rw e at (sound-some s) in f
+pub sound_computed : {s : List ℕ} {r v : ℕ} → sound_answer s ≡ (r, v) → Soundness s r v
+sound_computed {s} {r} {v} e = let f : FitNumber (Soundness s) (r, v) = rw e at (sound_some s) in f
 
 -- the bytes of 0; of the prefix a or a[k] before X; of X + Y and of X | Y; of X under a restriction on a
 abbrev pub stop : List ℕ
@@ -91,26 +91,26 @@ pub marked :
     × Soundness crossed 0 7
     × UndoStep crossed 1 8 0 crossed
     × UndoStep crossed 2 8 0 crossed
-unfolding decode read node kind_of finish encode forward-answer forward-of undo-answer undo-of sound-answer places? prefix? forward? do-zero do-pre do-cho do-par do-res below? unshift zero? size shift places undo? has? std? co? on? channel? verdict waits? chosen? twice? paired? split? hidden? apart? two? keys? each? ordered? acyclic? peel look find empty above? before? labels keys without dec_le ℕ_discrete dec_lt
+unfolding decode read node kind_of finish encode forward_answer forward_of undo_answer undo_of sound_answer places? prefix? forward? do_zero do_pre do_cho do_par do_res below? unshift zero? size shift places undo? has? std? co? on? channel? verdict waits? chosen? twice? paired? split? hidden? apart? two? keys? each? ordered? acyclic? peel look find empty above? before? labels keys without dec_le ℕ_discrete dec_lt
 marked = (
-  forward-computed refl,
-  undo-computed refl,
-  undo-computed refl,
-  undo-computed refl,
-  undo-computed refl,
-  undo-computed refl,
-  forward-computed refl,
-  forward-computed refl,
-  forward-computed refl,
-  forward-computed refl,
-  forward-computed refl,
-  sound-computed refl,
-  sound-computed refl,
-  sound-computed refl,
-  sound-computed refl,
-  sound-computed refl,
-  sound-computed refl,
-  sound-computed refl,
-  undo-computed refl,
-  undo-computed refl,
+  forward_computed refl,
+  undo_computed refl,
+  undo_computed refl,
+  undo_computed refl,
+  undo_computed refl,
+  undo_computed refl,
+  forward_computed refl,
+  forward_computed refl,
+  forward_computed refl,
+  forward_computed refl,
+  forward_computed refl,
+  sound_computed refl,
+  sound_computed refl,
+  sound_computed refl,
+  sound_computed refl,
+  sound_computed refl,
+  sound_computed refl,
+  sound_computed refl,
+  undo_computed refl,
+  undo_computed refl,
 )

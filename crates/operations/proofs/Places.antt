@@ -11,7 +11,7 @@ use Rattle.ccsk.specs.Term.{Term, Label, Key, Node, nil, pre, cho, par, res, siz
 use Rattle.ccsk.specs.Step.{Forward, Forward.top, Forward.prefix, Forward.choice₁, Forward.choice₂, Forward.par₁, Forward.par₂, Forward.synch, Forward.restrict}
 use Rattle.ccsk.specs.Place.{shift, places, ForwardAt, IsPrefix}
 use Rattle.ccsk.proofs.Decide.{three}
-use Rattle.ccsk.proofs.Place.{Under, places-under, Placed, alone, joined, step-placed}
+use Rattle.ccsk.proofs.Place.{Under, places_under, Placed, alone, joined, step_placed}
 use Rattle.operations.specs.Order.{pair, ArePlaces}
 
 abbrev one_side : (b : Bool) {A B : Type 0} → Dec A → Dec B → Dec (cond b A B)
@@ -54,38 +54,38 @@ below-pre a k t p i = let e : 1 + p ≡ suc p = omega arith in rw e i
 below-res : (a : ℕ) (t : Term) (p : Node) → IsPrefix p t → IsPrefix (1 + p) (res a t)
 below-res a t p i = let e : 1 + p ≡ suc p = omega arith in rw e i
 
-left-cho : (t u : Term) (p : Node) → p < size t → IsPrefix p t → IsPrefix (1 + p) (cho t u)
-left-cho t u p h i = let e : 1 + p ≡ suc p = omega arith in rw (e, lt-ltb p (size t) h) i
+left_cho : (t u : Term) (p : Node) → p < size t → IsPrefix p t → IsPrefix (1 + p) (cho t u)
+left_cho t u p h i = let e : 1 + p ≡ suc p = omega arith in rw (e, lt-ltb p (size t) h) i
 
-left-par : (t u : Term) (p : Node) → p < size t → IsPrefix p t → IsPrefix (1 + p) (par t u)
-left-par t u p h i = let e : 1 + p ≡ suc p = omega arith in rw (e, lt-ltb p (size t) h) i
+left_par : (t u : Term) (p : Node) → p < size t → IsPrefix p t → IsPrefix (1 + p) (par t u)
+left_par t u p h i = let e : 1 + p ≡ suc p = omega arith in rw (e, lt-ltb p (size t) h) i
 
-right-cho : (t u : Term) (p : Node) → IsPrefix p u → IsPrefix ((1 + size t) + p) (cho t u)
-right-cho t u p i = let e : (1 + size t) + p ≡ suc (size t + p) = omega arith in let f : (size t + p) - size t ≡ p = omega arith in rw (e, le-ltb (size t + p) (size t) (omega arith), f) i
+right_cho : (t u : Term) (p : Node) → IsPrefix p u → IsPrefix ((1 + size t) + p) (cho t u)
+right_cho t u p i = let e : (1 + size t) + p ≡ suc (size t + p) = omega arith in let f : (size t + p) - size t ≡ p = omega arith in rw (e, le-ltb (size t + p) (size t) (omega arith), f) i
 
-right-par : (t u : Term) (p : Node) → IsPrefix p u → IsPrefix ((1 + size t) + p) (par t u)
-right-par t u p i = let e : (1 + size t) + p ≡ suc (size t + p) = omega arith in let f : (size t + p) - size t ≡ p = omega arith in rw (e, le-ltb (size t + p) (size t) (omega arith), f) i
+right_par : (t u : Term) (p : Node) → IsPrefix p u → IsPrefix ((1 + size t) + p) (par t u)
+right_par t u p i = let e : (1 + size t) + p ≡ suc (size t + p) = omega arith in let f : (size t + p) - size t ≡ p = omega arith in rw (e, le-ltb (size t + p) (size t) (omega arith), f) i
 
-step-prefixes : {t u : Term} {m : Key} {l : Label} (d : Forward t m l u) → Prefixes (places d) t
+step_prefixes : {t u : Term} {m : Key} {l : Label} (d : Forward t m l u) → Prefixes (places d) t
 unfolding places
-step-prefixes (top h s) = (tt, tt)
-step-prefixes (prefix {a = a} {n = n} {t = t} h f d) = raise 1 (places d) t (pre a n t) (places-under d) (λ p o i. below-pre a n t p i) (step-prefixes d)
-step-prefixes (choice₁ {t = t} {u = u} s d) = raise 1 (places d) t (cho t u) (places-under d) (left-cho t u) (step-prefixes d)
-step-prefixes (choice₂ {t = t} {u = u} s d) = raise (1 + size t) (places d) u (cho t u) (places-under d) (λ p o i. right-cho t u p i) (step-prefixes d)
-step-prefixes (par₁ {t = t} {u = u} f d) = raise 1 (places d) t (par t u) (places-under d) (left-par t u) (step-prefixes d)
-step-prefixes (par₂ {t = t} {u = u} f d) = raise (1 + size t) (places d) u (par t u) (places-under d) (λ p o i. right-par t u p i) (step-prefixes d)
-step-prefixes (synch {t = t} {u = u} c d e) = together (shift 1 (places d)) (shift (1 + size t) (places e)) (par t u)
-    (raise 1 (places d) t (par t u) (places-under d) (left-par t u) (step-prefixes d))
-    (raise (1 + size t) (places e) u (par t u) (places-under e) (λ p o i. right-par t u p i) (step-prefixes e))
-step-prefixes (restrict {a = a} {t = t} f d) = raise 1 (places d) t (res a t) (places-under d) (λ p o i. below-res a t p i) (step-prefixes d)
+step_prefixes (top h s) = (tt, tt)
+step_prefixes (prefix {a = a} {n = n} {t = t} h f d) = raise 1 (places d) t (pre a n t) (places_under d) (λ p o i. below-pre a n t p i) (step_prefixes d)
+step_prefixes (choice₁ {t = t} {u = u} s d) = raise 1 (places d) t (cho t u) (places_under d) (left_cho t u) (step_prefixes d)
+step_prefixes (choice₂ {t = t} {u = u} s d) = raise (1 + size t) (places d) u (cho t u) (places_under d) (λ p o i. right_cho t u p i) (step_prefixes d)
+step_prefixes (par₁ {t = t} {u = u} f d) = raise 1 (places d) t (par t u) (places_under d) (left_par t u) (step_prefixes d)
+step_prefixes (par₂ {t = t} {u = u} f d) = raise (1 + size t) (places d) u (par t u) (places_under d) (λ p o i. right_par t u p i) (step_prefixes d)
+step_prefixes (synch {t = t} {u = u} c d e) = together (shift 1 (places d)) (shift (1 + size t) (places e)) (par t u)
+    (raise 1 (places d) t (par t u) (places_under d) (left_par t u) (step_prefixes d))
+    (raise (1 + size t) (places e) u (par t u) (places_under e) (λ p o i. right_par t u p i) (step_prefixes e))
+step_prefixes (restrict {a = a} {t = t} f d) = raise 1 (places d) t (res a t) (places_under d) (λ p o i. below-res a t p i) (step_prefixes d)
 
 ascend : {t : Term} {l : Label} {x : List Node} {p q : Node} → x ≡ p ∷ (q ∷ []) → Placed t l x → p < q
 ascend e (alone p i) = let z : ◌≡◌ {A = ℕ} 0 1 = cc in absurd (omega arith)
 ascend {p = p} {q = q} e (joined p' q' o z c) = let a : p' ≡ p = cc in let b : q' ≡ q = cc in omega arith
 
 -- where a step is derived, p and q are places
-pub forward-places : (t : Term) (m : Key) (p q : Node) → ForwardAt t m (pair p q) → ArePlaces t p q
-forward-places t m p zero w = let i : Prefixes (p ∷ []) t = rw w.3 at (step-prefixes w.2) in i.0
-forward-places t m p (suc q) w =
-    let i : Prefixes (p ∷ (suc q ∷ [])) t = rw w.3 at (step-prefixes w.2) in
-    (i.0, i.1.0, ascend w.3 (step-placed w.2))
+pub forward_places : (t : Term) (m : Key) (p q : Node) → ForwardAt t m (pair p q) → ArePlaces t p q
+forward_places t m p zero w = let i : Prefixes (p ∷ []) t = rw w.3 at (step_prefixes w.2) in i.0
+forward_places t m p (suc q) w =
+    let i : Prefixes (p ∷ (suc q ∷ [])) t = rw w.3 at (step_prefixes w.2) in
+    (i.0, i.1.0, ascend w.3 (step_placed w.2))

@@ -8,17 +8,17 @@ use Rattle.ccsk.specs.Term.{Term}
 use Rattle.format.specs.Read.{Reads, Refuses}
 use Rattle.format.specs.Encode.{encode, Fits, Bytes}
 use Rattle.format.proofs.Unique.{encode-decode}
-use Rattle.format.proofs.Refusals.{decode-refusals}
+use Rattle.format.proofs.Refusals.{decode_refusals}
 
 -- refusal number 0 means done
-pub not-refused-zero : {A : Type 0} (s : List ℕ) → Refuses s 0 → A
-not-refused-zero s e = absurd (⊎_elim (λ z. omega arith) (λ z. omega arith) (decode-refusals s 0 e))
+pub not_refused_zero : {A : Type 0} (s : List ℕ) → Refuses s 0 → A
+not_refused_zero s e = absurd (⊎_elim (λ z. omega arith) (λ z. omega arith) (decode_refusals s 0 e))
 
-pub reads-one : (s : List ℕ) {t u : Term} → Reads s t → Reads s u → t ≡ u
-reads-one s e f = cc
+pub reads_one : (s : List ℕ) {t u : Term} → Reads s t → Reads s u → t ≡ u
+reads_one s e f = cc
 
-pub encode-read : (s : List ℕ) {t : Term} → Bytes s → Reads s t → encode t ≡ s
-encode-read s {t} h e = (encode-decode s t h e).0
+pub encode_read : (s : List ℕ) {t : Term} → Bytes s → Reads s t → encode t ≡ s
+encode_read s {t} h e = (encode-decode s t h e).0
 
 pub read_fits : (s : List ℕ) {t : Term} → Bytes s → Reads s t → Fits t
 read_fits s {t} h e = (encode-decode s t h e).1

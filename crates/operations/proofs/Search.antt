@@ -11,9 +11,9 @@ abbrev pub Least : (ℕ → Type 0) → ℕ → Type 0
 Least S i = (k : ℕ) × (i ≤ k) × S k × ((j : ℕ) → i ≤ j → S j → k ≤ j)
 
 module _ (S : ℕ → Type 0) (s? : (k : ℕ) → Dec (S k)) where
-  unfoldable pub search-up : (f i : ℕ) → Least S i ⊎ ((j : ℕ) → i ≤ j → j < i + f → ¬ S j)
-  search-up zero i = inr (λ j h g s. omega arith)
-  search-up (suc f) i = pick (s? i) (search-up f (suc i))
+  unfoldable pub search_up : (f i : ℕ) → Least S i ⊎ ((j : ℕ) → i ≤ j → j < i + f → ¬ S j)
+  search_up zero i = inr (λ j h g s. omega arith)
+  search_up (suc f) i = pick (s? i) (search_up f (suc i))
     where
       pick : Dec (S i) → Least S (suc i) ⊎ ((j : ℕ) → suc i ≤ j → j < suc i + f → ¬ S j) → Least S i ⊎ ((j : ℕ) → i ≤ j → j < i + suc f → ¬ S j)
       pick (yes s) r = inl (i, omega arith, s, λ j h z. h)
@@ -30,7 +30,7 @@ module _ (S : ℕ → Type 0) (s? : (k : ℕ) → Dec (S k)) where
 
   -- all that have S are below n
   unfoldable pub least? : (n : ℕ) → ((j : ℕ) → S j → j < n) → (i : ℕ) → Least S i ⊎ ((j : ℕ) → i ≤ j → ¬ S j)
-  least? n b i = ⊎_elim inl (λ f. inr (λ j h s. f j h (omega (arith, b j s)) s)) (search-up n i)
+  least? n b i = ⊎_elim inl (λ f. inr (λ j h s. f j h (omega (arith, b j s)) s)) (search_up n i)
 
 -- (p', q') has S, is at or after (p, q), and is the first such
 pub record FirstAt (S : ℕ → ℕ → Type 0) (p q p' q' : ℕ) : Type 0 where
@@ -77,8 +77,8 @@ module _ (S : ℕ → ℕ → Type 0) (s? : (p q : ℕ) → Dec (S p q)) (n : �
       here (inr f) z = later f z
 
 -- two pairs each at or after the other are the same
-pub same-pair : (p q p' q' : ℕ) → AtOrAfter p q p' q' → AtOrAfter p' q' p q → (p ≡ p') × (q ≡ q')
-same-pair p q p' q' (inl h) (inl g) = absurd (omega arith)
-same-pair p q p' q' (inl h) (inr e) = absurd (omega arith)
-same-pair p q p' q' (inr e) (inl h) = absurd (omega arith)
-same-pair p q p' q' (inr e) (inr f) = omega arith
+pub same_pair : (p q p' q' : ℕ) → AtOrAfter p q p' q' → AtOrAfter p' q' p q → (p ≡ p') × (q ≡ q')
+same_pair p q p' q' (inl h) (inl g) = absurd (omega arith)
+same_pair p q p' q' (inl h) (inr e) = absurd (omega arith)
+same_pair p q p' q' (inr e) (inl h) = absurd (omega arith)
+same_pair p q p' q' (inr e) (inr f) = omega arith

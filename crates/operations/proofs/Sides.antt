@@ -10,7 +10,7 @@ use Rattle.ccsk.specs.Place.{shift, places}
 use Rattle.ccsk.proofs.Basic.{has?}
 use Rattle.ccsk.specs.Decide.{channel?, co?, on?}
 use Rattle.ccsk.proofs.Decide.{std?}
-use Rattle.ccsk.proofs.ForwardDec.{forward?, do-zero, do-pre, do-cho, do-par, do-res, below?, unshift, zero?}
+use Rattle.ccsk.proofs.ForwardDec.{forward?, do_zero, do_pre, do_cho, do_par, do_res, below?, unshift, zero?}
 use Rattle.ccsk.proofs.UndoDec.{undo?}
 use Rattle.sound.proofs.Chains.{chain?, through?}
 use Rattle.sound.proofs.Peel.{acyclic?, peel, look, find, empty}
@@ -22,38 +22,38 @@ use Rattle.operations.specs.Change.{ForwardStep, UndoStep}
 use Rattle.operations.specs.Ask.{ReadRecord, KeyCount, FreeKey, FirstStep, UndoListing, WaitingList, Soundness}
 use Rattle.operations.proofs.Choose.{Fit}
 use Rattle.operations.proofs.Places.{places?, prefix?}
-use Rattle.operations.proofs.Lists.{pass, least-free-key}
-use Rattle.operations.proofs.ChangeOnce.{forward-answer, forward-of, undo-answer, undo-of}
-use Rattle.operations.proofs.NumberOnce.{FitNumber, sound-answer, read_answer, read_some, count-answer, count-some, free-answer, free-some}
-use Rattle.operations.proofs.Search.{search-up, least?, row?, first?}
-use Rattle.operations.proofs.FirstOnce.{FitFound, first-answer, first_some, free, search}
-use Rattle.operations.proofs.RowOnce.{fill, undoables, listing-answer, listing-some, awaited, waiting-of, waiting-answer, waiting-some}
+use Rattle.operations.proofs.Lists.{pass, least_free_key}
+use Rattle.operations.proofs.ChangeOnce.{forward_answer, forward_of, undo_answer, undo_of}
+use Rattle.operations.proofs.NumberOnce.{FitNumber, sound_answer, read_answer, read_some, count_answer, count_some, free_answer, free_some}
+use Rattle.operations.proofs.Search.{search_up, least?, row?, first?}
+use Rattle.operations.proofs.FirstOnce.{FitFound, first_answer, first_some, free, search}
+use Rattle.operations.proofs.RowOnce.{fill, undoables, listing_answer, listing_some, awaited, waiting_of, waiting_answer, waiting_some}
 use Rattle.operations.proofs.RowOnce as Row
-use Rattle.operations.proofs.Marked.{forward-computed, undo-computed, sound-computed, stop, act, beside, under, one}
+use Rattle.operations.proofs.Marked.{forward_computed, undo_computed, sound_computed, stop, act, beside, under, one}
 
-pub read-computed : {s : List ℕ} {r n : ℕ} → read_answer s ≡ (r, n) → ReadRecord s r n
-read-computed {s} {r} {n} e = let f : FitNumber (ReadRecord s) (r, n) = rw e at (read_some s) in f
+pub read_computed : {s : List ℕ} {r n : ℕ} → read_answer s ≡ (r, n) → ReadRecord s r n
+read_computed {s} {r} {n} e = let f : FitNumber (ReadRecord s) (r, n) = rw e at (read_some s) in f
 
-pub count-computed : {s : List ℕ} {r n : ℕ} → count-answer s ≡ (r, n) → KeyCount s r n
-count-computed {s} {r} {n} e = let f : FitNumber (KeyCount s) (r, n) = rw e at (count-some s) in f
+pub count_computed : {s : List ℕ} {r n : ℕ} → count_answer s ≡ (r, n) → KeyCount s r n
+count_computed {s} {r} {n} e = let f : FitNumber (KeyCount s) (r, n) = rw e at (count_some s) in f
 
-pub free-computed : {s : List ℕ} {r : ℕ} {k : Key} → free-answer s ≡ (r, k) → FreeKey s r k
-free-computed {s} {r} {k} e = let f : FitNumber (FreeKey s) (r, k) = rw e at (free-some s) in f
+pub free_computed : {s : List ℕ} {r : ℕ} {k : Key} → free_answer s ≡ (r, k) → FreeKey s r k
+free_computed {s} {r} {k} e = let f : FitNumber (FreeKey s) (r, k) = rw e at (free_some s) in f
 
-pub first-computed : {s : List ℕ} {p q p' q' : Node} {r n : ℕ} {l : Label} → first-answer s p q ≡ (r, n, p', q', l) → FirstStep s p q r n p' q' l
-first-computed {s} {p} {q} {p'} {q'} {r} {n} {l} e = let f : FitFound (FirstStep s p q) (r, n, p', q', l) = rw e at (first_some s p q) in f
+pub first_computed : {s : List ℕ} {p q p' q' : Node} {r n : ℕ} {l : Label} → first_answer s p q ≡ (r, n, p', q', l) → FirstStep s p q r n p' q' l
+first_computed {s} {p} {q} {p'} {q'} {r} {n} {l} e = let f : FitFound (FirstStep s p q) (r, n, p', q', l) = rw e at (first_some s p q) in f
 
-pub listing-computed : {s row row' : List ℕ} {r n : ℕ} → listing-answer s row ≡ (r, n, row') → UndoListing s row r n row'
-listing-computed {s} {row} {row'} {r} {n} e = let f : Fit (UndoListing s row) (r, n, row') = rw e at (listing-some s row) in f
+pub listing_computed : {s row row' : List ℕ} {r n : ℕ} → listing_answer s row ≡ (r, n, row') → UndoListing s row r n row'
+listing_computed {s} {row} {row'} {r} {n} e = let f : Fit (UndoListing s row) (r, n, row') = rw e at (listing_some s row) in f
 
-pub waiting-computed : {s row row' : List ℕ} {m : Key} {r n : ℕ} → waiting-answer s m row ≡ (r, n, row') → WaitingList s m row r n row'
-waiting-computed {s} {row} {row'} {m} {r} {n} e = let f : Fit (WaitingList s m row) (r, n, row') = rw e at (waiting-some s m row) in f
+pub waiting_computed : {s row row' : List ℕ} {m : Key} {r n : ℕ} → waiting_answer s m row ≡ (r, n, row') → WaitingList s m row r n row'
+waiting_computed {s} {row} {row'} {m} {r} {n} e = let f : Fit (WaitingList s m row) (r, n, row') = rw e at (waiting_some s m row) in f
 
 -- a.0 | b.0 under a restriction on c, and the same with key 1 on both
 abbrev pair_under : Label → Label → Label → Key → List ℕ
 pair_under c a b k = under c (beside (one a k) (one b k))
 
-pub sides-of-names :
+pub sides_of_names :
     -- a'.0 is stopped by a restriction on a as a.0 is; b.0 is not
     ForwardStep (pair_under 1 1 129 0) 4 0 1 6 0 (pair_under 1 1 129 0)
     × ForwardStep (pair_under 1 1 2 0) 4 0 1 0 2 (under 1 (beside (one 1 0) (one 2 1)))
@@ -76,27 +76,27 @@ pub sides-of-names :
     × ReadRecord (under 1 stop) 0 2
     × ReadRecord (under 127 stop) 0 2
     × ReadRecord (under 128 stop) 1 0
-unfolding decode read node kind_of finish encode read_answer forward-answer forward-of undo-answer undo-of sound-answer places? prefix? forward? do-zero do-pre do-cho do-par do-res below? unshift zero? size shift places undo? has? std? co? on? channel? verdict waits? chosen? twice? paired? split? hidden? apart? two? keys? each? ordered? acyclic? peel look find empty above? before? labels keys without dec_le ℕ_discrete dec_lt
-sides-of-names = (
-  forward-computed refl,
-  forward-computed refl,
-  sound-computed refl,
-  sound-computed refl,
-  sound-computed refl,
-  forward-computed refl,
-  forward-computed refl,
-  forward-computed refl,
-  undo-computed refl,
-  sound-computed refl,
-  sound-computed refl,
-  read-computed refl,
-  read-computed refl,
-  read-computed refl,
-  read-computed refl,
-  read-computed refl,
-  read-computed refl,
-  read-computed refl,
-  read-computed refl,
+unfolding decode read node kind_of finish encode read_answer forward_answer forward_of undo_answer undo_of sound_answer places? prefix? forward? do_zero do_pre do_cho do_par do_res below? unshift zero? size shift places undo? has? std? co? on? channel? verdict waits? chosen? twice? paired? split? hidden? apart? two? keys? each? ordered? acyclic? peel look find empty above? before? labels keys without dec_le ℕ_discrete dec_lt
+sides_of_names = (
+  forward_computed refl,
+  forward_computed refl,
+  sound_computed refl,
+  sound_computed refl,
+  sound_computed refl,
+  forward_computed refl,
+  forward_computed refl,
+  forward_computed refl,
+  undo_computed refl,
+  sound_computed refl,
+  sound_computed refl,
+  read_computed refl,
+  read_computed refl,
+  read_computed refl,
+  read_computed refl,
+  read_computed refl,
+  read_computed refl,
+  read_computed refl,
+  read_computed refl,
 )
 
 -- a[1].b[2].0 | b'[2].c[3].0
@@ -107,7 +107,7 @@ chained = beside (act 1 1 (one 2 2)) (act 130 2 (one 3 3))
 abbrev circle : List ℕ
 circle = beside (act 1 1 (one 130 2)) (act 2 2 (one 129 1))
 
-pub sides-of-keys-and-places :
+pub sides_of_keys_and_places :
     -- key 65,535 is taken, 0 is refused 3, and 3 comes before 4
     ForwardStep (one 1 0) 0 0 65535 0 1 (1 ∷ (1 ∷ (255 ∷ (255 ∷ stop))))
     × ForwardStep (one 1 0) 0 0 0 3 0 (one 1 0)
@@ -143,39 +143,39 @@ pub sides-of-keys-and-places :
     -- undo listing of a[2].0 | b[1].0: 1, 2
     × UndoListing (beside (one 1 2) (one 2 1)) (7 ∷ (8 ∷ (9 ∷ []))) 0 2 (1 ∷ (2 ∷ (9 ∷ [])))
     × UndoListing (beside (one 1 2) (one 2 1)) (7 ∷ []) 9 0 (7 ∷ [])
-unfolding decode read node kind_of finish encode count-answer distinct in? forward-answer forward-of undo-answer undo-of sound-answer places? prefix? forward? do-zero do-pre do-cho do-par do-res below? unshift zero? size shift places undo? has? std? co? on? channel? verdict waits? chosen? twice? paired? split? hidden? apart? two? keys? each? ordered? acyclic? peel look find empty above? before? labels keys without dec_le ℕ_discrete dec_lt pass fill undoables listing-answer awaited waiting-of waiting-answer Row.waits? chained? chain? through?
-sides-of-keys-and-places = (
-  forward-computed refl,
-  forward-computed refl,
-  forward-computed refl,
-  undo-computed refl,
-  undo-computed refl,
-  forward-computed refl,
-  forward-computed refl,
-  forward-computed refl,
-  forward-computed refl,
-  forward-computed refl,
-  forward-computed refl,
-  sound-computed refl,
-  sound-computed refl,
-  count-computed refl,
-  waiting-computed refl,
-  waiting-computed refl,
-  waiting-computed refl,
-  waiting-computed refl,
-  waiting-computed refl,
-  waiting-computed refl,
-  waiting-computed refl,
-  waiting-computed refl,
-  sound-computed refl,
-  waiting-computed refl,
-  waiting-computed refl,
-  listing-computed refl,
-  listing-computed refl,
+unfolding decode read node kind_of finish encode count_answer distinct in? forward_answer forward_of undo_answer undo_of sound_answer places? prefix? forward? do_zero do_pre do_cho do_par do_res below? unshift zero? size shift places undo? has? std? co? on? channel? verdict waits? chosen? twice? paired? split? hidden? apart? two? keys? each? ordered? acyclic? peel look find empty above? before? labels keys without dec_le ℕ_discrete dec_lt pass fill undoables listing_answer awaited waiting_of waiting_answer Row.waits? chained? chain? through?
+sides_of_keys_and_places = (
+  forward_computed refl,
+  forward_computed refl,
+  forward_computed refl,
+  undo_computed refl,
+  undo_computed refl,
+  forward_computed refl,
+  forward_computed refl,
+  forward_computed refl,
+  forward_computed refl,
+  forward_computed refl,
+  forward_computed refl,
+  sound_computed refl,
+  sound_computed refl,
+  count_computed refl,
+  waiting_computed refl,
+  waiting_computed refl,
+  waiting_computed refl,
+  waiting_computed refl,
+  waiting_computed refl,
+  waiting_computed refl,
+  waiting_computed refl,
+  waiting_computed refl,
+  sound_computed refl,
+  waiting_computed refl,
+  waiting_computed refl,
+  listing_computed refl,
+  listing_computed refl,
 )
 
 -- a.0 | a'.0, with its three steps (01, the listing)
-pub sides-of-search :
+pub sides_of_search :
     FirstStep (beside (one 1 0) (one 129 0)) 0 0 0 1 1 0 1
     × FirstStep (beside (one 1 0) (one 129 0)) 1 0 0 1 1 0 1
     × FirstStep (beside (one 1 0) (one 129 0)) 1 1 0 1 1 3 0
@@ -187,8 +187,8 @@ pub sides-of-search :
     × FreeKey (beside (one 1 0) (one 129 0)) 0 1
     × FreeKey (beside (one 1 1) (one 129 1)) 0 2
     × FreeKey (beside (one 1 2) (one 129 3)) 0 1
-unfolding decode read node kind_of finish encode first-answer free-answer free search first? row? least? search-up least-free-key distinct in? forward? do-zero do-pre do-cho do-par do-res below? unshift zero? size shift places has? std? co? on? channel? keys dec_le ℕ_discrete dec_lt
-sides-of-search = (first-computed refl, first-computed refl, first-computed refl, first-computed refl, first-computed refl, first-computed refl, first-computed refl, first-computed refl, free-computed refl, free-computed refl, free-computed refl)
+unfolding decode read node kind_of finish encode first_answer free_answer free search first? row? least? search_up least_free_key distinct in? forward? do_zero do_pre do_cho do_par do_res below? unshift zero? size shift places has? std? co? on? channel? keys dec_le ℕ_discrete dec_lt
+sides_of_search = (first_computed refl, first_computed refl, first_computed refl, first_computed refl, first_computed refl, first_computed refl, first_computed refl, first_computed refl, free_computed refl, free_computed refl, free_computed refl)
 
 -- n prefixes a, and then X
 unfoldable pub prefixes : ℕ → List ℕ → List ℕ
@@ -200,7 +200,7 @@ unfoldable pub doubled : ℕ → List ℕ
 doubled zero = stop
 doubled (suc n) = beside (doubled n) (doubled n)
 
-pub sides-of-limits :
+pub sides_of_limits :
     -- no bytes, bytes cut short, bytes after the term
     ReadRecord [] 1 0
     × ReadRecord (1 ∷ (1 ∷ (0 ∷ []))) 1 0
@@ -214,4 +214,4 @@ pub sides-of-limits :
     -- the first offence decides: bytes ended at depth 257
     × ReadRecord (prefixes 256 []) 1 0
 unfolding decode read node kind_of finish read_answer size prefixes doubled
-sides-of-limits = (read-computed refl, read-computed refl, read-computed refl, read-computed refl, read-computed refl, read-computed refl, read-computed refl, read-computed refl)
+sides_of_limits = (read_computed refl, read_computed refl, read_computed refl, read_computed refl, read_computed refl, read_computed refl, read_computed refl, read_computed refl)

@@ -47,8 +47,8 @@ pub data UndoListing (s row : List ℕ) : ℕ → ℕ → List ℕ → Type 0 wh
 -- Waiting list of the key m, ascending; refusal, count, row (01, Operations; 02, [5]).
 pub data WaitingList (s : List ℕ) (m : Key) (row : List ℕ) : ℕ → ℕ → List ℕ → Type 0 where
   unreadable : {c : ℕ} → Refuses s c → WaitingList s m row c 0 row
-  key-zero : {t : Term} → Reads s t → m ≡ 0 → WaitingList s m row 3 0 row
-  key-absent : {t : Term} → Reads s t → 0 < m → Fsh m t → WaitingList s m row 7 0 row
+  key_zero : {t : Term} → Reads s t → m ≡ 0 → WaitingList s m row 3 0 row
+  key_absent : {t : Term} → Reads s t → 0 < m → Fsh m t → WaitingList s m row 7 0 row
   done : {t : Term} {l row' : List ℕ} {r n : ℕ} → Reads s t → 0 < m → Has m t → Lists (WaitsFor t m) l → Filled l row r n row' → WaitingList s m row r n row'
 
 -- Soundness: refusal and verdict (01, Soundness).

@@ -45,10 +45,10 @@ module _ (keys : List Key) where
           other (yes e) i = inl (sym e)
           other (no e) i = inr (w.1 (down e i.0, i.1))
 
-  pub left-all : (n : ℕ) → length (left [] keys n) ≡ n
+  pub left_all : (n : ℕ) → length (left [] keys n) ≡ n
   unfolding left in?
-  left-all zero = refl
-  left-all (suc n) = ap suc (left-all n)
+  left_all zero = refl
+  left_all (suc n) = ap suc (left_all n)
 
   module _ (out : List Key) (k : Key) where
     -- a key that is not among them changes nothing
@@ -82,15 +82,15 @@ module _ (keys : List Key) where
         pick (no z) (no d) (yes g) w = absurd (d (inr g))
 
   -- some are left, or all are out
-  pub left-some : (out : List Key) (n : ℕ) → 0 < length (left out keys n) → (k : Key) × Among n keys k × ¬ In k out
-  left-some out n h = pick (left out keys n) (λ k. (in_left out n k).0) h
+  pub left_some : (out : List Key) (n : ℕ) → 0 < length (left out keys n) → (k : Key) × Among n keys k × ¬ In k out
+  left_some out n h = pick (left out keys n) (λ k. (in_left out n k).0) h
     where
       pick : (l : List Key) → ((k : Key) → In k l → Among n keys k × ¬ In k out) → 0 < length l → (k : Key) × Among n keys k × ¬ In k out
       pick [] f h = absurd (omega arith)
       pick (k ∷ l) f h = let w = f k (inl refl) in (k, w.0, w.1)
 
-  pub left-none : (out : List Key) (n : ℕ) → length (left out keys n) ≡ 0 → (k : Key) → Among n keys k → In k out
-  left-none out n h k a = inside (in? k out)
+  pub left_none : (out : List Key) (n : ℕ) → length (left out keys n) ≡ 0 → (k : Key) → Among n keys k → In k out
+  left_none out n h k a = inside (in? k out)
     where
       none : (l : List Key) → length l ≡ 0 → ¬ In k l
       none [] e i = i

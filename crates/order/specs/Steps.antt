@@ -3,7 +3,7 @@ use Rattle.std.specs.Prelude.{◌≡◌, ◌⊎◌, ◌↔◌, List, [], ◌∷�
 use Rattle.ccsk.specs.Numbers.{In}
 use Rattle.ccsk.specs.Term.{Key}
 use Rattle.sound.specs.Sound.{Chain}
-use Rattle.format.specs.Limits.{node-limit}
+use Rattle.format.specs.Limits.{node_limit}
 use Rattle.least.specs.Board.{There, Board, Put}
 use Rattle.threads.specs.Rows.{Leads, owing, between, Among, Under, Last}
 use Rattle.order.specs.Peels.{Peels}
@@ -21,11 +21,11 @@ pub record Scene (n : ℕ) (keys ups olds heads : List ℕ) : Type 0 where
   pub head : (r : ℕ) → r < n → Last (Among n keys) us ls (get_or keys r 0) (length us) (get_or heads r 0)
   pub older : (r i : ℕ) → r < n → Under (Among n keys) us ls (get_or keys r 0) i → Last (Among n keys) us ls (get_or keys r 0) i (get_or olds i 0)
   pub named : (r i : ℕ) → r < n → get_or us i 0 ≡ get_or keys r 0 → get_or ups i 0 ≡ r
-  pub few : n ≤ node-limit
-  pub long-ups : length ups ≡ length us
-  pub long-olds : length olds ≡ length us
-  pub long-keys : n ≤ length keys
-  pub long-heads : n ≤ length heads
+  pub few : n ≤ node_limit
+  pub long_ups : length ups ≡ length us
+  pub long_olds : length olds ≡ length us
+  pub long_keys : n ≤ length keys
+  pub long_heads : n ≤ length heads
   pub rows : length us < 65536
 
 -- The keys of `out` are taken out. A counter says how many rows lead from its key to one that is not out, and in the tree stand the

@@ -2,7 +2,7 @@
 // Helpers between crates, with what each asks of its caller.
 ghost use Rattle.std.specs.Prelude.{◌≡◌, ◌+◌, ◌<◌, ◌≤◌, length, get_or};
 ghost use Rattle.least.specs.Board.{There, Board};
-ghost use Rattle.format.specs.Limits.{node-limit};
+ghost use Rattle.format.specs.Limits.{node_limit};
 ghost use Rattle.order.specs.Steps.{Released, Releasable, Releases, Peelable, PeelsAll};
 ghost use Rattle.threads.specs.Threads.{Sortable};
 ghost use Rattle.order.specs.Setup.{Sorted, LeafOf, Planted};
@@ -18,7 +18,7 @@ const TREE: usize = 2 * NODES;
 
 // The leaf of the number r: r itself if its counter is 0.
 fn leaf(counter: u16, r: usize) -> u16
-    requires { r < node-limit }
+    requires { r < node_limit }
     ensures { LeafOf counter r result }
 {
     if counter == 0 {
@@ -29,7 +29,7 @@ fn leaf(counter: u16, r: usize) -> u16
 
 // Gives the tree its leaves, and builds it.
 fn plant(counters: &[u16], tree: &mut [u16], n: usize)
-    requires { (n ≤ node-limit) × (n ≤ length counters.now) × (n + n ≤ length tree.old) × (0 < length tree.old) }
+    requires { (n ≤ node_limit) × (n ≤ length counters.now) × (n + n ≤ length tree.old) × (0 < length tree.old) }
     ensures { Planted n counters.now tree.new }
 {
     let mut r: usize = 0;

@@ -4,7 +4,7 @@ ghost use Rattle.cursor.specs.At.{showing};
 ghost use Rattle.shared.specs.Number as number;
 ghost use Rattle.search.specs.First as first;
 ghost use Rattle.steps.specs.Plan as plan;
-ghost use Rattle.packing.specs.Packed.{step-answer, answer, node-answer};
+ghost use Rattle.packing.specs.Packed.{step_answer, answer, node_answer};
 ghost use Rattle.packing.specs.Known.{Known};
 
 use cursor::Shown;
@@ -31,7 +31,7 @@ const KEY_HIGH: u64 = 16777216;
 
 // The answer of a step as one number.
 pub fn packed_step(given: Moved) -> u32
-    ensures { result ≡ step-answer (plan.refusal given) (plan.label given) }
+    ensures { result ≡ step_answer (plan.refusal given) (plan.label given) }
 {
     match given {
         Moved::Refused(c) => c as u32 * STEP_REFUSAL,
@@ -79,7 +79,7 @@ fn body_byte(record: &[u8], from: usize, long: usize, i: usize) -> u8
 // What is shown of a node of the record, packed.
 pub fn packed_node(record: &[u8], given: Shown) -> u64
     requires { Known given }
-    ensures { result ≡ node-answer 0 (showing «record».now given) }
+    ensures { result ≡ node_answer 0 (showing «record».now given) }
 {
     match given {
         Shown::Nothing => 0,

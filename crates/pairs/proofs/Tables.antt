@@ -14,7 +14,7 @@ use Rattle.ccsk.specs.Term.{tick}
 use Rattle.causes.specs.Entry.{Entry, keep, only}
 use Rattle.causes.specs.Tests.{EachKey, AtMostTwo, Complements, Beside, Enclosed}
 use Rattle.causes.specs.Links.{renamed}
-use Rattle.causes.proofs.Renaming.{Blind, two-blind, complements-blind, beside-blind, enclosed-blind}
+use Rattle.causes.proofs.Renaming.{Blind, two_blind, complements_blind, beside_blind, enclosed_blind}
 use Rattle.causes.specs.Columns.{Below, Positive, Square}
 use Rattle.pairs.specs.Rows.{table, rows_of, row, Indexed}
 use Rattle.pairs.specs.Cause.{Lowest, spots, of, EachBelow, CauseBelow, Placed, EachPlaced}
@@ -29,29 +29,29 @@ from_next i x l l₀ f j = f (suc j) ∙ ap (λ (k : ℕ). get_or l₀ k 0) (shi
     shift : (i j : ℕ) → i + suc j ≡ suc i + j
     shift i j = omega arith
 
-from-here : (i x : ℕ) (l l₀ : List ℕ) → From i (x ∷ l) l₀ → x ≡ get_or l₀ i 0
-from-here i x l l₀ f = f 0 ∙ ap (λ (k : ℕ). get_or l₀ k 0) (last i)
+from_here : (i x : ℕ) (l l₀ : List ℕ) → From i (x ∷ l) l₀ → x ≡ get_or l₀ i 0
+from_here i x l l₀ f = f 0 ∙ ap (λ (k : ℕ). get_or l₀ k 0) (last i)
   where
     last : (i : ℕ) → i + 0 ≡ i
     last i = omega arith
 
 -- the entries of m, without their keys, are those in its rows
-spots-only : (m i : ℕ) (ks acs es ss us acs₀ es₀ ss₀ : List ℕ) → Square ks acs es ss us → From i acs acs₀ → From i es es₀ → From i ss ss₀ → renamed (λ x. 0) (only m (table i ks acs es ss us)) ≡ spots acs₀ es₀ ss₀ (rows_of m i ks)
+spots_only : (m i : ℕ) (ks acs es ss us acs₀ es₀ ss₀ : List ℕ) → Square ks acs es ss us → From i acs acs₀ → From i es es₀ → From i ss ss₀ → renamed (λ x. 0) (only m (table i ks acs es ss us)) ≡ spots acs₀ es₀ ss₀ (rows_of m i ks)
 unfolding table rows_of only renamed spots
-spots-only m i [] acs es ss us acs₀ es₀ ss₀ q f g h = refl
-spots-only m i (k ∷ ks) [] es ss us acs₀ es₀ ss₀ q f g h = absurd (let z = q.actions in omega arith)
-spots-only m i (k ∷ ks) (a ∷ acs) [] ss us acs₀ es₀ ss₀ q f g h = absurd (let z = q.ends in omega arith)
-spots-only m i (k ∷ ks) (a ∷ acs) (e ∷ es) [] us acs₀ es₀ ss₀ q f g h = absurd (let z = q.scopes in omega arith)
-spots-only m i (k ∷ ks) (a ∷ acs) (e ∷ es) (s ∷ ss) [] acs₀ es₀ ss₀ q f g h = absurd (let z = q.ups in omega arith)
-spots-only m i (k ∷ ks) (a ∷ acs) (e ∷ es) (s ∷ ss) (u ∷ us) acs₀ es₀ ss₀ q f g h = pick (eqb m k) (spots-only m (suc i) ks acs es ss us acs₀ es₀ ss₀ (record { actions = let z = q.actions in omega arith; ends = let z = q.ends in omega arith; scopes = let z = q.scopes in omega arith; ups = let z = q.ups in omega arith }) (from_next i a acs acs₀ f) (from_next i e es es₀ g) (from_next i s ss ss₀ h))
+spots_only m i [] acs es ss us acs₀ es₀ ss₀ q f g h = refl
+spots_only m i (k ∷ ks) [] es ss us acs₀ es₀ ss₀ q f g h = absurd (let z = q.actions in omega arith)
+spots_only m i (k ∷ ks) (a ∷ acs) [] ss us acs₀ es₀ ss₀ q f g h = absurd (let z = q.ends in omega arith)
+spots_only m i (k ∷ ks) (a ∷ acs) (e ∷ es) [] us acs₀ es₀ ss₀ q f g h = absurd (let z = q.scopes in omega arith)
+spots_only m i (k ∷ ks) (a ∷ acs) (e ∷ es) (s ∷ ss) [] acs₀ es₀ ss₀ q f g h = absurd (let z = q.ups in omega arith)
+spots_only m i (k ∷ ks) (a ∷ acs) (e ∷ es) (s ∷ ss) (u ∷ us) acs₀ es₀ ss₀ q f g h = pick (eqb m k) (spots_only m (suc i) ks acs es ss us acs₀ es₀ ss₀ (record { actions = let z = q.actions in omega arith; ends = let z = q.ends in omega arith; scopes = let z = q.scopes in omega arith; ups = let z = q.ups in omega arith }) (from_next i a acs acs₀ f) (from_next i e es es₀ g) (from_next i s ss ss₀ h))
   where
     pick : (b : Bool) → renamed (λ x. 0) (only m (table (suc i) ks acs es ss us)) ≡ spots acs₀ es₀ ss₀ (rows_of m (suc i) ks)
         → renamed (λ x. 0) (keep b (record { key = k; action = a; row = i; end = e; scope = s; up = u }) (only m (table (suc i) ks acs es ss us))) ≡ spots acs₀ es₀ ss₀ (tick b i (rows_of m (suc i) ks))
-    pick true z = rw (z, ← from-here i a acs acs₀ f, ← from-here i e es es₀ g, ← from-here i s ss ss₀ h)
+    pick true z = rw (z, ← from_here i a acs acs₀ f, ← from_here i e es es₀ g, ← from_here i s ss ss₀ h)
     pick false z = z
 
-pub only-spots : (m : ℕ) (ks acs es ss us : List ℕ) → Square ks acs es ss us → renamed (λ x. 0) (only m (table 0 ks acs es ss us)) ≡ spots acs es ss (rows_of m 0 ks)
-only-spots m ks acs es ss us q = spots-only m 0 ks acs es ss us acs es ss q (λ j. at acs j) (λ j. at es j) (λ j. at ss j)
+pub only_spots : (m : ℕ) (ks acs es ss us : List ℕ) → Square ks acs es ss us → renamed (λ x. 0) (only m (table 0 ks acs es ss us)) ≡ spots acs es ss (rows_of m 0 ks)
+only_spots m ks acs es ss us q = spots_only m 0 ks acs es ss us acs es ss q (λ j. at acs j) (λ j. at es j) (λ j. at ss j)
   where
     at : (l : List ℕ) (j : ℕ) → get_or l j 0 ≡ get_or l (0 + j) 0
     at l j = ap (λ (k : ℕ). get_or l k 0) (let z : j ≡ 0 + j = omega arith in z)
@@ -73,7 +73,7 @@ module _ (ks acs es ss us first second : List ℕ) (q : Square ks acs es ss us) 
 
   -- a test that does not look at keys asks the same of the entries of m as of its rows
   at_rows : (P : List Entry → Type 0) → Blind P → (m : ℕ) → P (only m l) ↔ P (spots acs es ss (rows_of m 0 ks))
-  at_rows P w m = rw (only-spots m ks acs es ss us q) at (w.same (λ x. 0) (only m l))
+  at_rows P w m = rw (only_spots m ks acs es ss us q) at (w.same (λ x. 0) (only m l))
 
   nothing : (P : List Entry → Type 0) → Blind P → (m : ℕ) → ((j : ℕ) → j < length ks → m ≢ get_or ks j 0) → P (spots acs es ss (rows_of m 0 ks))
   unfolding spots
@@ -95,8 +95,8 @@ module _ (ks acs es ss us first second : List ℕ) (q : Square ks acs es ss us) 
           pick (no i) = (at_rows P w m).1 (nothing P w m (λ j k e. let z = b j k in i (omega arith)))
 
   -- an index has at most two rows for a key
-  pub two-rows : Indexed ks first second → EachKey AtMostTwo l
-  two-rows x = (each_rows AtMostTwo two-blind x).1 (λ k h. let y = spots-length acs es ss (of first second k) in let z = short (get_or first k 0) (get_or second k 0) in omega arith)
+  pub two_rows : Indexed ks first second → EachKey AtMostTwo l
+  two_rows x = (each_rows AtMostTwo two_blind x).1 (λ k h. let y = spots-length acs es ss (of first second k) in let z = short (get_or first k 0) (get_or second k 0) in omega arith)
     where
       short : (a b : ℕ) → length (row a ++ row b) ≤ 2
       short zero zero = omega arith
@@ -105,19 +105,19 @@ module _ (ks acs es ss us first second : List ℕ) (q : Square ks acs es ss us) 
       short (suc a) (suc b) = omega arith
 
   -- three rows are too many
-  pub three-rows : (k : ℕ) → 2 < length (rows_of k 0 ks) → ¬ EachKey AtMostTwo l
-  three-rows zero h f = let e = ap length (rows_none 0 0 ks (λ j i e. let z = p j i in omega arith)) in omega arith
-  three-rows (suc k) h f = let z = (at_rows AtMostTwo two-blind (suc k)).0 (f (suc k) (omega arith)) in let y = spots-length acs es ss (rows_of (suc k) 0 ks) in omega arith
+  pub three_rows : (k : ℕ) → 2 < length (rows_of k 0 ks) → ¬ EachKey AtMostTwo l
+  three_rows zero h f = let e = ap length (rows_none 0 0 ks (λ j i e. let z = p j i in omega arith)) in omega arith
+  three_rows (suc k) h f = let z = (at_rows AtMostTwo two_blind (suc k)).0 (f (suc k) (omega arith)) in let y = spots-length acs es ss (rows_of (suc k) 0 ks) in omega arith
 
   -- the answer on rows is the answer on entries
-  pub lowest-rows : Indexed ks first second → (c : ℕ) → CauseBelow (length first) acs es ss first second c → Lowest (EachKey Complements l) (EachKey Beside l) (EachKey Enclosed l) c
-  lowest-rows x c r = record { least = r.least; most = r.most; holds₄ = λ h. (each_rows Complements complements-blind x).1 (r.holds₄ h); holds₅ = λ h. (each_rows Beside beside-blind x).1 (r.holds₅ h); holds₆ = λ h. (each_rows Enclosed enclosed-blind x).1 (r.holds₆ h); fails₄ = λ e f. r.fails₄ e ((each_rows Complements complements-blind x).0 f); fails₅ = λ e f. r.fails₅ e ((each_rows Beside beside-blind x).0 f); fails₆ = λ e f. r.fails₆ e ((each_rows Enclosed enclosed-blind x).0 f) }
+  pub lowest_rows : Indexed ks first second → (c : ℕ) → CauseBelow (length first) acs es ss first second c → Lowest (EachKey Complements l) (EachKey Beside l) (EachKey Enclosed l) c
+  lowest_rows x c r = record { least = r.least; most = r.most; holds₄ = λ h. (each_rows Complements complements_blind x).1 (r.holds₄ h); holds₅ = λ h. (each_rows Beside beside_blind x).1 (r.holds₅ h); holds₆ = λ h. (each_rows Enclosed enclosed_blind x).1 (r.holds₆ h); fails₄ = λ e f. r.fails₄ e ((each_rows Complements complements_blind x).0 f); fails₅ = λ e f. r.fails₅ e ((each_rows Beside beside_blind x).0 f); fails₆ = λ e f. r.fails₆ e ((each_rows Enclosed enclosed_blind x).0 f) }
 
 -- the rows of an index lie in the columns
-rows-below : (m i : ℕ) (ks : List ℕ) (r : ℕ) → In r (rows_of m i ks) → r < i + length ks
+rows_below : (m i : ℕ) (ks : List ℕ) (r : ℕ) → In r (rows_of m i ks) → r < i + length ks
 unfolding rows_of
-rows-below m i [] r z = absurd z
-rows-below m i (k ∷ ks) r z = pick (eqb m k) z (rows-below m (suc i) ks r)
+rows_below m i [] r z = absurd z
+rows_below m i (k ∷ ks) r z = pick (eqb m k) z (rows_below m (suc i) ks r)
   where
     pick : (b : Bool) → In r (tick b i (rows_of m (suc i) ks)) → (In r (rows_of m (suc i) ks) → r < suc i + length ks) → r < i + suc (length ks)
     pick true (inl e) f = omega arith
@@ -128,7 +128,7 @@ pub each_placed : (ks first second : List ℕ) → Indexed ks first second → E
 each_placed ks first second x = record { alike = x.alike; placed = λ k h. both k h (get_or first k 0) (get_or second k 0) refl refl }
   where
     inside : (k : ℕ) → k < length first → (r : ℕ) → In r (row (get_or first k 0) ++ row (get_or second k 0)) → r < length ks
-    inside k h r i = let z = rows-below k 0 ks r (rw (x.rows k h) i) in omega arith
+    inside k h r i = let z = rows_below k 0 ks r (rw (x.rows k h) i) in omega arith
 
     both : (k : ℕ) → k < length first → (a b : ℕ) → get_or first k 0 ≡ a → get_or second k 0 ≡ b → Placed (length ks) (get_or first k 0) (get_or second k 0)
     both k h zero b e f = (omega arith, let z = x.order k h e in omega arith, λ w. x.order k h w)

@@ -9,8 +9,8 @@ Zero l = (k : ℕ) → k < length l → get_or l k 0 ≡ 0
 -- The row is noted, one higher, as the first or the second of k; or both were noted before, and nothing changes.
 pub data Entered (r k : ℕ) (first second : List ℕ) : List ℕ → List ℕ → Bool → Type 0 where
   as_first : get_or first k 0 ≡ 0 → Entered r k first second (set first k (r + 1)) second true
-  as-second : get_or first k 0 ≢ 0 → get_or second k 0 ≡ 0 → Entered r k first second first (set second k (r + 1)) true
-  as-third : get_or first k 0 ≢ 0 → get_or second k 0 ≢ 0 → Entered r k first second first second false
+  as_second : get_or first k 0 ≢ 0 → get_or second k 0 ≡ 0 → Entered r k first second first (set second k (r + 1)) true
+  as_third : get_or first k 0 ≢ 0 → get_or second k 0 ≢ 0 → Entered r k first second first second false
 
 -- all rows are indexed, or some key stands in more than two
 abbrev pub Index : List ℕ → List ℕ → List ℕ → Bool → Type 0

@@ -10,20 +10,20 @@ use borrow.Author.Tests.{eq-eqb, ne_eqb}
 use lib.Dec.{eqb}
 use lib.ListN.{length, get_or}
 use Rattle.ccsk.specs.Term.{Term, Label, Node, Co, res, On, size}
-use Rattle.ccsk.proofs.Basic.{co-sym}
+use Rattle.ccsk.proofs.Basic.{co_sym}
 use Rattle.labelset.specs.declared.Labels.{Labels}
 use Rattle.labelset.specs.Set.{Shows, Exactly}
 use Rattle.offers.specs.Offers.{Joins, Showing, At, OffersAt, JoinsAt}
 use Rattle.offers.specs.Forms.{Part}
-use Rattle.offers.proofs.Places.{trans, flip, at_in, at_one, at-two, at_own, Pair, pair-in}
-use Rattle.offers.proofs.Parts.{Passes, Splits, Across, Meets, offers-under, joins-under, own-offers, own-joins, hidden-offers, hidden-joins}
-use Rattle.offers.proofs.Forms.{Form, nothing, own, next, second, either, both, hidden, form, Two, choice, parallel, two-parts}
+use Rattle.offers.proofs.Places.{trans, flip, at_in, at_one, at_two_lem, at_own, Pair, pair_in}
+use Rattle.offers.proofs.Parts.{Passes, Splits, Across, Meets, offers_under, joins_under, own_offers, own_joins, hidden_offers, hidden_joins}
+use Rattle.offers.proofs.Forms.{Form, nothing, own, next, second, either, both, hidden, form, Two, choice, parallel, two_parts}
 use Rattle.wanted.specs.Kept.{Covers}
 use Rattle.partners.specs.declared.Met.{Met}
 use Rattle.showing.specs.Listed.{Listed, Lists}
 use Rattle.partners.specs.Met as met
 use Rattle.partners.specs.Met.{Is, Hides, Seeks}
-use Rattle.showing.proofs.Listing.{listed-none, listed_same, listed-both}
+use Rattle.showing.proofs.Listing.{listed_none, listed_same, listed_both}
 
 -- what is met in one part
 record PartMet (F A E K : List ℕ) (n i : Node) (listing : Bool) (L : List ℕ) (t : Term) (L' : List ℕ) (r : Met) : Type 0 where
@@ -32,31 +32,31 @@ record PartMet (F A E K : List ℕ) (n i : Node) (listing : Bool) (L : List ℕ)
   few : r.count ≤ n + size t
 
 -- two places of a node with two parts: both in one of them, or one in each
-pairs-split : {X : Node → Node → Type 0} {t u v : Term} (n k i j : Node) → k ≡ n + 1 + size u → Splits X t u v → JoinsAt n t i j ↔ (JoinsAt (n + 1) u i j ⊎ (JoinsAt k v i j ⊎ Pair n n X i j))
-pairs-split {X} {t} {u} {v} n k i j e P = (
+pairs_split : {X : Node → Node → Type 0} {t u v : Term} (n k i j : Node) → k ≡ n + 1 + size u → Splits X t u v → JoinsAt n t i j ↔ (JoinsAt (n + 1) u i j ⊎ (JoinsAt k v i j ⊎ Pair n n X i j))
+pairs_split {X} {t} {u} {v} n k i j e P = (
   λ w. let z = w.2 in ⊎_elim (λ y. inl (left.0 (w.0, w.1, (z.0, z.1, y)))) (λ x. inr (⊎_elim (λ y. inl (right.0 (w.0, w.1, (z.0, z.1, y)))) (λ y. inr (w.0, w.1, (z.0, z.1, y))) x)) ((P.joins w.0 z.0).0 z.2),
   λ w. ⊎_elim (λ z. up (left.1 z) (λ p q y. inl y)) (λ x. ⊎_elim (λ z. up (right.1 z) (λ p q y. inr (inl y))) (λ z. up z (λ p q y. inr (inr y))) x) w,
 )
   where
     left : Pair n n (JoinsAt 1 u) i j ↔ JoinsAt (n + 1) u i j
-    left = pair-in (Joins u) n 1 1 (n + 1) (n + 1) i j refl refl (λ p q. (λ z. z, λ z. z))
+    left = pair_in (Joins u) n 1 1 (n + 1) (n + 1) i j refl refl (λ p q. (λ z. z, λ z. z))
 
     right : Pair n n (JoinsAt (1 + size u) v) i j ↔ JoinsAt k v i j
-    right = pair-in (Joins v) n (1 + size u) (1 + size u) k k i j (omega arith) (omega arith) (λ p q. (λ z. z, λ z. z))
+    right = pair_in (Joins v) n (1 + size u) (1 + size u) k k i j (omega arith) (omega arith) (λ p q. (λ z. z, λ z. z))
 
     up : {R : Node → Node → Type 0} → Pair n n R i j → ((p q : Node) → R p q → JoinsAt 1 u p q ⊎ (JoinsAt (1 + size u) v p q ⊎ X p q)) → JoinsAt n t i j
     up w f = let z = w.2 in (w.0, w.1, (z.0, z.1, (P.joins w.0 z.0).1 (f w.0 z.0 z.2)))
 
 -- what is offered by a node with two parts, and on its left
-offers-two : {X : Node → Node → Type 0} {t u v : Term} (n k i : Node) → k ≡ n + 1 + size u → Splits X t u v → (l : Label) → OffersAt n t i l ↔ (OffersAt (n + 1) u i l ⊎ OffersAt k v i l)
-offers-two {u = u} n k i e P l = at-two n 1 (1 + size u) (n + 1) k i refl (omega arith) (λ q. P.offers q l)
+offers_two : {X : Node → Node → Type 0} {t u v : Term} (n k i : Node) → k ≡ n + 1 + size u → Splits X t u v → (l : Label) → OffersAt n t i l ↔ (OffersAt (n + 1) u i l ⊎ OffersAt k v i l)
+offers_two {u = u} n k i e P l = at_two_lem n 1 (1 + size u) (n + 1) k i refl (omega arith) (λ q. P.offers q l)
 
-left-label : {X : Node → Node → Type 0} {t u v : Term} (n k i : Node) → k ≡ n + 1 + size u → Splits X t u v → i < k → (l : Label) → OffersAt n t i l ↔ OffersAt (n + 1) u i l
-left-label n k i e P h l = trans (offers-two n k i e P l) (λ w. ⊎_elim (λ z. z) (λ z. absurd (omega (arith, z.1))) w, inl)
+left_label : {X : Node → Node → Type 0} {t u v : Term} (n k i : Node) → k ≡ n + 1 + size u → Splits X t u v → i < k → (l : Label) → OffersAt n t i l ↔ OffersAt (n + 1) u i l
+left_label n k i e P h l = trans (offers_two n k i e P l) (λ w. ⊎_elim (λ z. z) (λ z. absurd (omega (arith, z.1))) w, inl)
 
 -- a place on the left of a parallel meets one on the right
 across : (u v : Term) (n k i j : Node) → k ≡ n + 1 + size u → Pair n n (Across u v) i j ↔ Pair (n + 1) k (Meets u v) i j
-across u v n k i j e = pair-in (Meets u v) n 1 (1 + size u) (n + 1) k i j refl (omega arith) (λ p q. (λ z. z, λ z. z))
+across u v n k i j e = pair_in (Meets u v) n 1 (1 + size u) (n + 1) k i j refl (omega arith) (λ p q. (λ z. z, λ z. z))
 
 past : {X Y : Type 0} → X ⊎ Y → ¬ X → Y
 past w e = ⊎_elim (λ z. absurd (e z)) (λ z. z) w
@@ -67,15 +67,15 @@ module _ {F A E K : List ℕ} {n i : Node} {listing : Bool} {L : List ℕ} where
 
   -- nothing is met
   alone : {r : Met} {t : Term} → r.count ≡ 0 → ((l : Label) → OffersAt n t i l ↔ Is r.label l) → ((p q : Node) → ¬ Joins t p q) → PartMet F A E K n i listing L t L r
-  alone {r} e l f = record { label = l; mates = λ b C. rw e (listed-none (λ j w. f _ _ w.2.2)); few = omega arith }
+  alone {r} e l f = record { label = l; mates = λ b C. rw e (listed_none (λ j w. f _ _ w.2.2)); few = omega arith }
 
   -- at the end of a way
-  pub meets-end : {a : Label} {b : Bool} → get_or F n 0 ≤ 1 → b ≡ (eqb (get_or F n 0) 1 && eqb n i) → a ≡ cond b (get_or A n 0) 128 → met.Meets F A E K n i listing L L (record { label = a; count = 0 })
-  meets-end {a} {b} h e d = meets refl (λ t w. of t w h e) refl
+  pub meets_end : {a : Label} {b : Bool} → get_or F n 0 ≤ 1 → b ≡ (eqb (get_or F n 0) 1 && eqb n i) → a ≡ cond b (get_or A n 0) 128 → met.Meets F A E K n i listing L L (record { label = a; count = 0 })
+  meets_end {a} {b} h e d = meets refl (λ t w. of t w h e) refl
     where
       of : {f : ℕ} (t : Term) → Form F A E n f t → f ≤ 1 → b ≡ (eqb f 1 && eqb n i) → PartMet F A E K n i listing L t L (record { label = a; count = 0 })
       of t (nothing s) h e = alone refl (λ l. rw (d, e) (λ w. absurd (s.offers w.0 l w.2), λ w. absurd (w.1 refl))) s.joins
-      of t (own {a = x} q f s) h e = alone refl (λ l. trans (at_own n i (λ p. own-offers s p l)) (rw (d, e, q) (pick l (ℕ_discrete n i)))) own-joins
+      of t (own {a = x} q f s) h e = alone refl (λ l. trans (at_own n i (λ p. own_offers s p l)) (rw (d, e, q) (pick l (ℕ_discrete n i)))) own_joins
         where
           pick : (l : Label) → Dec (n ≡ i) → ((i ≡ n) × (l ≡ x)) ↔ Is (cond (eqb n i) x 128) l
           pick l (yes z) = rw (eq-eqb n i z) (λ w. (w.1, f), λ w. (sym z, w.0))
@@ -90,89 +90,89 @@ module _ {F A E K : List ℕ} {n i : Node} {listing : Bool} {L : List ℕ} where
   passed : {L' : List ℕ} {r : Met} {t u : Term} {k : ℕ} (m : Node) → m ≡ n + k → Passes t k u → Part F A E m u → met.Meets F A E K m i listing L L' r → PartMet F A E K n i listing L t L' r
   passed {u = u} {k = k} m e P x M = record {
     label = λ l. trans (at_one n k m i e (λ q. P.offers q l)) (M.label u x l);
-    mates = λ b C. listed_same (λ j. flip (pair-in (Joins u) n k k m m i j e e P.joins)) (M.mates b C u x);
+    mates = λ b C. listed_same (λ j. flip (pair_in (Joins u) n k k m m i j e e P.joins)) (M.mates b C u x);
     few = omega (arith, M.few u x, P.within);
   }
 
-  pub meets-next : {L' : List ℕ} {r : Met} → get_or F n 0 ≡ 2 → met.Meets F A E K (n + 1) i listing L L' r → met.Meets F A E K n i listing L L' r
-  meets-next {L'} {r} e M = meets e of M.room
+  pub meets_next : {L' : List ℕ} {r : Met} → get_or F n 0 ≡ 2 → met.Meets F A E K (n + 1) i listing L L' r → met.Meets F A E K n i listing L L' r
+  meets_next {L'} {r} e M = meets e of M.room
     where
       of : (t : Term) → Form F A E n 2 t → PartMet F A E K n i listing L t L' r
       of t (next P x) = passed (n + 1) refl P x M
 
-  pub meets-hidden : {L' : List ℕ} {below r : Label} {c : ℕ} → get_or F n 0 ≡ 6 → met.Meets F A E K (n + 1) i listing L L' (record { label = below; count = c }) → Hides (get_or A n 0) below r → met.Meets F A E K n i listing L L' (record { label = r; count = c })
+  pub meets_hidden : {L' : List ℕ} {below r : Label} {c : ℕ} → get_or F n 0 ≡ 6 → met.Meets F A E K (n + 1) i listing L L' (record { label = below; count = c }) → Hides (get_or A n 0) below r → met.Meets F A E K n i listing L L' (record { label = r; count = c })
   unfolding size
-  meets-hidden {L'} {below} {r} {c} e M H = meets e of M.room
+  meets_hidden {L'} {below} {r} {c} e M H = meets e of M.room
     where
       of : (t : Term) → Form F A E n 6 t → PartMet F A E K n i listing L t L' (record { label = r; count = c })
       of t (hidden {a = a} {t = u} d q x) = record {
         label = λ l. trans (through l) (trans (λ w. ((M.label u x l).0 w.0, w.1), λ w. ((M.label u x l).1 w.0, w.1)) (flip (rw d at (H.at l))));
-        mates = λ b C. listed_same (λ j. flip (pair-in (Joins u) n 1 1 (n + 1) (n + 1) i j refl refl hidden-joins)) (M.mates b C u x);
+        mates = λ b C. listed_same (λ j. flip (pair_in (Joins u) n 1 1 (n + 1) (n + 1) i j refl refl hidden_joins)) (M.mates b C u x);
         few = omega (arith, M.few u x);
       }
         where
           through : (l : Label) → OffersAt n (res a u) i l ↔ (OffersAt (n + 1) u i l × ¬ On a l)
-          through l = (λ w. let z = (hidden-offers w.0 l).0 w.2 in ((at_in _ n 1 (n + 1) i refl).0 (w.0, w.1, z.0), z.1), λ w. let z = (at_in _ n 1 (n + 1) i refl).1 w.0 in (z.0, z.1, (hidden-offers z.0 l).1 (z.2, w.1)))
+          through l = (λ w. let z = (hidden_offers w.0 l).0 w.2 in ((at_in _ n 1 (n + 1) i refl).0 (w.0, w.1, z.0), z.1), λ w. let z = (at_in _ n 1 (n + 1) i refl).1 w.0 in (z.0, z.1, (hidden_offers z.0 l).1 (z.2, w.1)))
 
   -- two parts: what is met in the one where the place stands
   module _ {k : Node} (d : k ≡ get_or E (n + 1) 0) where
     -- the two parts of a node, each where it begins
     module _ {X : Node → Node → Type 0} {t u v : Term} (P : Splits X t u v) (e : k ≡ n + 1 + size u) where
       -- the place stands on the right
-      on-right : {L' : List ℕ} {r : Met} → k ≤ i → ((j : Node) → ¬ Pair n n X i j) → Part F A E k v → met.Meets F A E K k i listing L L' r → PartMet F A E K n i listing L t L' r
-      on-right h f y M = record {
-        label = λ l. trans (offers-two n k i e P l) (trans (λ w. ⊎_elim (λ z. absurd (omega (arith, z.1, offers-under z.2))) (λ z. z) w, inr) (M.label v y l));
-        mates = λ b C. listed_same (λ j. flip (trans (pairs-split n k i j e P) (
-          λ w. ⊎_elim (λ z. absurd (omega (arith, z.1, joins-under z.2.2))) (λ x. ⊎_elim (λ z. z) (λ z. absurd (f j z)) x) w,
+      on_right : {L' : List ℕ} {r : Met} → k ≤ i → ((j : Node) → ¬ Pair n n X i j) → Part F A E k v → met.Meets F A E K k i listing L L' r → PartMet F A E K n i listing L t L' r
+      on_right h f y M = record {
+        label = λ l. trans (offers_two n k i e P l) (trans (λ w. ⊎_elim (λ z. absurd (omega (arith, z.1, offers_under z.2))) (λ z. z) w, inr) (M.label v y l));
+        mates = λ b C. listed_same (λ j. flip (trans (pairs_split n k i j e P) (
+          λ w. ⊎_elim (λ z. absurd (omega (arith, z.1, joins_under z.2.2))) (λ x. ⊎_elim (λ z. z) (λ z. absurd (f j z)) x) w,
           λ w. inr (inl w),
         ))) (M.mates b C v y);
         few = omega (arith, M.few v y, P.within);
       }
 
       -- it stands on the left, and no partner on the right is listed
-      on-left : {L' : List ℕ} {r : Met} → i < k → (listing ≡ true → (j : Node) → ¬ Pair n n X i j) → Part F A E (n + 1) u → met.Meets F A E K (n + 1) i listing L L' r → PartMet F A E K n i listing L t L' r
-      on-left h f x M = record {
-        label = λ l. trans (left-label n k i e P h l) (M.label u x l);
-        mates = λ b C. listed_same (λ j. flip (trans (pairs-split n k i j e P) (
+      on_left : {L' : List ℕ} {r : Met} → i < k → (listing ≡ true → (j : Node) → ¬ Pair n n X i j) → Part F A E (n + 1) u → met.Meets F A E K (n + 1) i listing L L' r → PartMet F A E K n i listing L t L' r
+      on_left h f x M = record {
+        label = λ l. trans (left_label n k i e P h l) (M.label u x l);
+        mates = λ b C. listed_same (λ j. flip (trans (pairs_split n k i j e P) (
           λ w. ⊎_elim (λ z. z) (λ y. ⊎_elim (λ z. absurd (omega (arith, z.1))) (λ z. absurd (f b j z)) y) w,
           inl,
         ))) (M.mates b C u x);
         few = omega (arith, M.few u x, P.within);
       }
 
-    pub meets-second : {L' : List ℕ} {r : Met} → 3 ≤ get_or F n 0 → get_or F n 0 ≢ 6 → (get_or F n 0 ≡ 3) ⊎ (k ≤ i) → met.Meets F A E K k i listing L L' r → met.Meets F A E K n i listing L L' r
-    meets-second {L'} {r} g h o M = meets refl (λ t w. of t w g h o) M.room
+    pub meets_second : {L' : List ℕ} {r : Met} → 3 ≤ get_or F n 0 → get_or F n 0 ≢ 6 → (get_or F n 0 ≡ 3) ⊎ (k ≤ i) → met.Meets F A E K k i listing L L' r → met.Meets F A E K n i listing L L' r
+    meets_second {L'} {r} g h o M = meets refl (λ t w. of t w g h o) M.room
       where
         of : {f : ℕ} (t : Term) → Form F A E n f t → 3 ≤ f → f ≢ 6 → (f ≡ 3) ⊎ (k ≤ i) → PartMet F A E K n i listing L t L' r
         of t (nothing s) g h o = absurd (omega arith)
         of t (own x y s) g h o = absurd (omega arith)
         of t (next P x) g h o = absurd (omega arith)
         of t (second m P q x) g h o = passed k (omega (arith, d, q)) P (rw (d ∙ q) x) M
-        of t (either P q x y) g h o = on-right P (d ∙ q) (past o (λ e. omega (arith, e))) (λ j w. w.2.2) (rw (d ∙ q) y) M
-        of t (both {u = u} {v = v} P q x y) g h o = let g : k ≤ i = past o (λ e. omega (arith, e)) in on-right P (d ∙ q) g (λ j w. let z = (across u v n k i j (d ∙ q)).0 w in omega (arith, z.1, offers-under z.2.2.3, d, q)) (rw (d ∙ q) y) M
+        of t (either P q x y) g h o = on_right P (d ∙ q) (past o (λ e. omega (arith, e))) (λ j w. w.2.2) (rw (d ∙ q) y) M
+        of t (both {u = u} {v = v} P q x y) g h o = let g : k ≤ i = past o (λ e. omega (arith, e)) in on_right P (d ∙ q) g (λ j w. let z = (across u v n k i j (d ∙ q)).0 w in omega (arith, z.1, offers_under z.2.2.3, d, q)) (rw (d ∙ q) y) M
         of t (hidden q c x) g h o = absurd (h refl)
 
-    pub meets-left : {L' : List ℕ} {r : Met} → 3 < get_or F n 0 → get_or F n 0 ≢ 6 → i < k → Seeks (get_or F n 0) listing r.label false → met.Meets F A E K (n + 1) i listing L L' r → met.Meets F A E K n i listing L L' r
-    meets-left {L'} {r} a b h s M = meets refl (λ t w. of s (two-parts w a b)) M.room
+    pub meets_left : {L' : List ℕ} {r : Met} → 3 < get_or F n 0 → get_or F n 0 ≢ 6 → i < k → Seeks (get_or F n 0) listing r.label false → met.Meets F A E K (n + 1) i listing L L' r → met.Meets F A E K n i listing L L' r
+    meets_left {L'} {r} a b h s M = meets refl (λ t w. of s (two_parts w a b)) M.room
       where
         of : {g : ℕ} {t : Term} → Seeks g listing r.label false → Two F A E n g t → PartMet F A E K n i listing L t L' r
-        of s (choice P q x y) = on-left P (d ∙ q) h (λ b j w. w.2.2) x M
-        of s (parallel {u = u} {v = v} P q x y) = on-left P (d ∙ q) h (λ b j w. ⊎_elim (λ z. z refl) (λ o. ⊎_elim (λ z. mute j w z) (λ z. true≢false (sym b ∙ z)) o) s) x M
+        of s (choice P q x y) = on_left P (d ∙ q) h (λ b j w. w.2.2) x M
+        of s (parallel {u = u} {v = v} P q x y) = on_left P (d ∙ q) h (λ b j w. ⊎_elim (λ z. z refl) (λ o. ⊎_elim (λ z. mute j w z) (λ z. true≢false (sym b ∙ z)) o) s) x M
           where
             mute : (j : Node) → Pair n n (Across u v) i j → r.label ≡ 128 → ⊥
             mute j w z = let y = (across u v n k i j (d ∙ q)).0 w in let m = y.2.2 in ((M.label u x m.0).0 (y.0, y.1, m.3)).1 z
 
     -- the partners on the right are listed behind those on the left
-    pub meets-both : {L' L'' : List ℕ} {l : Label} {c c' : ℕ} → get_or F n 0 ≡ 5 → i < k → l ≢ 128 → met.Meets F A E K (n + 1) i listing L L' (record { label = l; count = c }) → Lists F A E K k (Co l) L' c L'' c' → met.Meets F A E K n i listing L L'' (record { label = l; count = c' })
-    meets-both {L'' = L''} {l = l} {c' = c'} e h s M N = meets e of (N.room ∙ M.room)
+    pub meets_both : {L' L'' : List ℕ} {l : Label} {c c' : ℕ} → get_or F n 0 ≡ 5 → i < k → l ≢ 128 → met.Meets F A E K (n + 1) i listing L L' (record { label = l; count = c }) → Lists F A E K k (Co l) L' c L'' c' → met.Meets F A E K n i listing L L'' (record { label = l; count = c' })
+    meets_both {L'' = L''} {l = l} {c' = c'} e h s M N = meets e of (N.room ∙ M.room)
       where
         of : (t : Term) → Form F A E n 5 t → PartMet F A E K n i listing L t L'' (record { label = l; count = c' })
         of t (both {u = u} {v = v} P q x a) = record {
-          label = λ m. trans (left-label n k i (d ∙ q) P h m) (M.label u x m);
-          mates = λ b C. listed_same (λ j. flip (trans (pairs-split n k i j (d ∙ q) P) (
+          label = λ m. trans (left_label n k i (d ∙ q) P h m) (M.label u x m);
+          mates = λ b C. listed_same (λ j. flip (trans (pairs_split n k i j (d ∙ q) P) (
             λ g. ⊎_elim inl (λ y. ⊎_elim (λ f. absurd (omega (arith, f.1))) (λ f. inr (there j ((across u v n k i j (d ∙ q)).0 f))) y) g,
             λ g. ⊎_elim inl (λ f. inr (inr ((across u v n k i j (d ∙ q)).1 (back j f)))) g,
-          ))) (listed-both (M.mates b C u x) (N.part C v y) (λ f j g m. omega (arith, g.2.1, m.1, joins-under g.2.2, d, q)));
+          ))) (listed_both (M.mates b C u x) (N.part C v y) (λ f j g m. omega (arith, g.2.1, m.1, joins_under g.2.2, d, q)));
           few = omega (arith, N.few v y, P.within, d, q);
         }
           where
@@ -186,16 +186,16 @@ module _ {F A E K : List ℕ} {n i : Node} {listing : Bool} {L : List ℕ} where
             back j f = let g = f.2 in let m = (M.label u x l).1 (refl, s) in (m.0, m.1, (f.0, f.1, (l, g.0, g.1, m.2, g.2)))
 
 -- what a restriction stops and lets through
-pub hides-stopped : {a : ℕ} {m : Label} → On a m → Hides a m 128
-hides-stopped o = record { at = λ l. (λ w. absurd (w.1 refl), λ w. absurd (w.1 (rw w.0.0 o))) }
+pub hides_stopped : {a : ℕ} {m : Label} → On a m → Hides a m 128
+hides_stopped o = record { at = λ l. (λ w. absurd (w.1 refl), λ w. absurd (w.1 (rw w.0.0 o))) }
 
-pub hides-open : {a : ℕ} {m : Label} → ¬ On a m → Hides a m m
-hides-open f = record { at = λ l. (λ w. (w, rw w.0 f), λ w. w.0) }
+pub hides_open : {a : ℕ} {m : Label} → ¬ On a m → Hides a m m
+hides_open f = record { at = λ l. (λ w. (w, rw w.0 f), λ w. w.0) }
 
-pub seeks-asked : {f : ℕ} {l : Label} → f ≡ 5 → l ≢ 128 → (b : Bool) → Seeks f b l b
-seeks-asked e h true = (e, h)
-seeks-asked e h false = inr (inr refl)
+pub seeks_asked : {f : ℕ} {l : Label} → f ≡ 5 → l ≢ 128 → (b : Bool) → Seeks f b l b
+seeks_asked e h true = (e, h)
+seeks_asked e h false = inr (inr refl)
 
 -- the complements of the set with one label
 pub answers : {one want : Labels} {a : Label} → Exactly one (λ l. l ≡ a) → Exactly want (λ l. (m : ℕ) × Co l m × Shows one m) → (l : Label) → Shows want l ↔ Co a l
-answers {a = a} o w l = (λ z. let y = (w.at l).0 z in co-sym (rw ((o.at y.0).0 y.2) at y.1), λ z. (w.at l).1 (a, co-sym z, (o.at a).1 refl))
+answers {a = a} o w l = (λ z. let y = (w.at l).0 z in co_sym (rw ((o.at y.0).0 y.2) at y.1), λ z. (w.at l).1 (a, co_sym z, (o.at a).1 refl))

@@ -12,21 +12,21 @@ use lib.ListN.{length, get_or, set}
 use lib.Seq.{get_or-set_same, get_or-set_other}
 use Rattle.ccsk.specs.Term.{Term, Label, Node, Co, size}
 use Rattle.offers.specs.Forms.{Part, SomePart}
-use Rattle.offers.proofs.Forms.{Form, nothing, own, next, second, either, both, hidden, form, inside, part_end, part-below, part-beyond, next-inside}
+use Rattle.offers.proofs.Forms.{Form, nothing, own, next, second, either, both, hidden, form, inside, part_end, part_below, part_beyond, next_inside}
 use Rattle.showing.specs.Listed.{Lists}
 use Rattle.partners.specs.declared.Met.{Met}
 use Rattle.partners.specs.declared.Stand.{Stand}
 use Rattle.partners.specs.Met.{Hides, Seeks, Meets}
 use Rattle.partners.specs.Way.{Onward, inner, Turns, Turn, Way, Left, WayTo}
-use Rattle.partners.proofs.Mates.{meets-next, meets-second, meets-hidden, meets-left, meets-both}
+use Rattle.partners.proofs.Mates.{meets_next, meets_second, meets_hidden, meets_left, meets_both}
 
 -- the turns before the last written
 kept : (W : List ℕ) (d n k : ℕ) → k < d → get_or (set W d n) k 0 ≡ get_or W k 0
 kept W d n k h = get_or-set_other W d k n 0 (λ e. omega arith)
 
-kept-inner : (W : List ℕ) (d n k : ℕ) → k ≤ d → inner (set W d n) k ≡ inner W k
-kept-inner W d n zero h = refl
-kept-inner W d n (suc k) h = rw (kept W d n k (omega arith)) refl
+kept_inner : (W : List ℕ) (d n k : ℕ) → k ≤ d → inner (set W d n) k ≡ inner W k
+kept_inner W d n zero h = refl
+kept_inner W d n (suc k) h = rw (kept W d n k (omega arith)) refl
 
 -- at a turn both parts step, or it is a restriction; the place is before the second part
 pub turned : {f k i : ℕ} → Turns f k i true → 3 ≤ f → 3 < f
@@ -36,8 +36,8 @@ pub stays : {f k i : ℕ} → Turns f k i true → f ≢ 6 → i < k
 stays t g = ⊎_elim (λ e. absurd (g e)) (λ z. z.1) t
 
 -- a node of two parts that both step
-pub turns-before : (f k i : ℕ) → f ≢ 6 → f ≢ 3 → Turns f k i (ltb i k)
-turns-before f k i a b = pick (dec_lt i k)
+pub turns_before : (f k i : ℕ) → f ≢ 6 → f ≢ 3 → Turns f k i (ltb i k)
+turns_before f k i a b = pick (dec_lt i k)
   where
     pick : Dec (i < k) → Turns f k i (ltb i k)
     pick (yes h) = rw (lt-ltb i k h) (inr (b, h))
@@ -55,35 +55,35 @@ module _ {F A E : List ℕ} where
   within {t = t} Q d (both {u = u} {v = v} P e x y) = (λ a b. omega (arith, part_end t Q, part_end u x, P.within), λ a b. rw (d ∙ e) (omega (arith, part_end t Q, part_end v y, P.within)))
   within {t = t} Q d (hidden {t = u} e c x) = (λ a b. omega (arith, part_end t Q, part_end u x), λ a b. absurd (b refl))
 
-  ends-below : {n : Node} (S : SomePart F A E n) → 2 ≤ get_or F n 0 → get_or F n 0 ≢ 3 → get_or E (n + 1) 0 ≤ get_or E n 0
-  ends-below {n} S = (within S.1 refl (form n S.0 S.1)).0
+  ends_below : {n : Node} (S : SomePart F A E n) → 2 ≤ get_or F n 0 → get_or F n 0 ≢ 3 → get_or E (n + 1) 0 ≤ get_or E n 0
+  ends_below {n} S = (within S.1 refl (form n S.0 S.1)).0
 
   -- the part that a turn leads into
-  pub turn-inner : {W : List ℕ} {i n : Node} {k : ℕ} → Turn F A E W i k → n ≡ get_or W k 0 → SomePart F A E (n + 1)
-  turn-inner T e = rw e (part-below T.part (omega (arith, T.form)) (λ q. omega (arith, q, T.form)))
+  pub turn_inner : {W : List ℕ} {i n : Node} {k : ℕ} → Turn F A E W i k → n ≡ get_or W k 0 → SomePart F A E (n + 1)
+  turn_inner T e = rw e (part_below T.part (omega (arith, T.form)) (λ q. omega (arith, q, T.form)))
 
   -- one node on
-  onward-next : {i m n : Node} → SomePart F A E n → get_or F n 0 ≡ 2 → Onward F A E i m n → Onward F A E i m (n + 1)
-  onward-next S e o = record { met = λ j K b L L' r h M. o.met j K b L L' r h (meets-next e M); ends = omega (arith, ends-below S (omega (arith, e)) (λ q. omega (arith, e)), o.ends) }
+  onward_next : {i m n : Node} → SomePart F A E n → get_or F n 0 ≡ 2 → Onward F A E i m n → Onward F A E i m (n + 1)
+  onward_next S e o = record { met = λ j K b L L' r h M. o.met j K b L L' r h (meets_next e M); ends = omega (arith, ends_below S (omega (arith, e)) (λ q. omega (arith, e)), o.ends) }
 
-  onward-second : {i m n k : Node} → SomePart F A E n → k ≡ get_or E (n + 1) 0 → 3 ≤ get_or F n 0 → get_or F n 0 ≢ 6 → (get_or F n 0 ≡ 3) ⊎ (k ≤ i) → Onward F A E i m n → Onward F A E i m k
-  onward-second {n = n} S d g h w o = record {
-    met = λ j K b L L' r q M. o.met j K b L L' r q (meets-second d g h (⊎_elim inl (λ z. inr (omega arith)) w) M);
+  onward_second : {i m n k : Node} → SomePart F A E n → k ≡ get_or E (n + 1) 0 → 3 ≤ get_or F n 0 → get_or F n 0 ≢ 6 → (get_or F n 0 ≡ 3) ⊎ (k ≤ i) → Onward F A E i m n → Onward F A E i m k
+  onward_second {n = n} S d g h w o = record {
+    met = λ j K b L L' r q M. o.met j K b L L' r q (meets_second d g h (⊎_elim inl (λ z. inr (omega arith)) w) M);
     ends = omega (arith, (within S.1 d (form n S.0 S.1)).1 g h, o.ends);
   }
 
-  onward-later : {i j m n : Node} → i ≤ j → Onward F A E i m n → Onward F A E j m n
-  onward-later l o = record { met = λ j K b L L' r q M. o.met j K b L L' r (omega arith) M; ends = o.ends }
+  onward_later : {i j m n : Node} → i ≤ j → Onward F A E i m n → Onward F A E j m n
+  onward_later l o = record { met = λ j K b L L' r q M. o.met j K b L L' r (omega arith) M; ends = o.ends }
 
   module _ {W : List ℕ} where
-    pub way-start : {i d n : Node} → SomePart F A E 0 → (d ≡ 0) × (n ≡ 0) → Way F A E W i d n
-    way-start S z = rw (z.0, z.1) (record { part = S; turns = λ k h. absurd (omega arith); last = record { met = λ j K b L L' r h M. M; ends = omega arith }; deep = omega arith; low = inside S })
+    pub way_start : {i d n : Node} → SomePart F A E 0 → (d ≡ 0) × (n ≡ 0) → Way F A E W i d n
+    way_start S z = rw (z.0, z.1) (record { part = S; turns = λ k h. absurd (omega arith); last = record { met = λ j K b L L' r h M. M; ends = omega arith }; deep = omega arith; low = inside S })
 
     pub way_later : {i j n : Node} {d : ℕ} → i ≤ j → Way F A E W i d n → Way F A E W j d n
     way_later l w = record {
       part = w.part;
-      turns = λ k h. let T = w.turns k h in record { part = T.part; form = T.form; from = onward-later l T.from; deep = T.deep };
-      last = onward-later l w.last;
+      turns = λ k h. let T = w.turns k h in record { part = T.part; form = T.form; from = onward_later l T.from; deep = T.deep };
+      last = onward_later l w.last;
       deep = w.deep;
       low = w.low;
     }
@@ -94,10 +94,10 @@ module _ {F A E : List ℕ} where
       way_back j e = let T = w.turns j (omega arith) in record { part = T.part; turns = λ k h. w.turns k (omega arith); last = T.from; deep = T.deep; low = inside T.part }
 
       pub way_next : get_or F n 0 ≡ 2 → Way F A E W i d (n + 1)
-      way_next e = let D = part-below w.part (omega (arith, e)) (λ q. omega (arith, e)) in record { part = D; turns = w.turns; last = onward-next w.part e w.last; deep = omega (arith, w.deep); low = inside D }
+      way_next e = let D = part_below w.part (omega (arith, e)) (λ q. omega (arith, e)) in record { part = D; turns = w.turns; last = onward_next w.part e w.last; deep = omega (arith, w.deep); low = inside D }
 
-      pub way-second : {k : Node} → k ≡ get_or E (n + 1) 0 → 3 ≤ get_or F n 0 → Turns (get_or F n 0) k i false → Way F A E W i d k
-      way-second q g t = let B = part-beyond w.part q g t.0 in record { part = B.0; turns = w.turns; last = onward-second w.part q g t.0 t.1 w.last; deep = omega (arith, w.deep, B.1); low = inside B.0 }
+      pub way_second : {k : Node} → k ≡ get_or E (n + 1) 0 → 3 ≤ get_or F n 0 → Turns (get_or F n 0) k i false → Way F A E W i d k
+      way_second q g t = let B = part_beyond w.part q g t.0 in record { part = B.0; turns = w.turns; last = onward_second w.part q g t.0 t.1 w.last; deep = omega (arith, w.deep, B.1); low = inside B.0 }
 
       -- turns end one inside the other
       falls : (k j : ℕ) → k ≤ j → j < d → get_or E (get_or W j 0 + 1) 0 ≤ get_or E (get_or W k 0 + 1) 0
@@ -105,7 +105,7 @@ module _ {F A E : List ℕ} where
       falls k (suc j) a b = pick (dec_le k j) (λ h. falls k j h (omega arith))
         where
           pick : Dec (k ≤ j) → (k ≤ j → get_or E (get_or W j 0 + 1) 0 ≤ get_or E (get_or W k 0 + 1) 0) → get_or E (get_or W (suc j) 0 + 1) 0 ≤ get_or E (get_or W k 0 + 1) 0
-          pick (yes h) f = let T = w.turns (suc j) b in omega (arith, f h, ends-below T.part (omega (arith, T.form)) (λ q. omega (arith, q, T.form)), T.from.ends)
+          pick (yes h) f = let T = w.turns (suc j) b in omega (arith, f h, ends_below T.part (omega (arith, T.form)) (λ q. omega (arith, q, T.form)), T.from.ends)
           pick (no h) f = let e : k ≡ suc j = omega arith in rw e (omega arith)
 
       -- a place before the end of the last turn is before the end of each
@@ -114,18 +114,18 @@ module _ {F A E : List ℕ} where
 
   -- a turn more
   module _ {W : List ℕ} {i n : Node} {d : ℕ} (l : d < length W) where
-    pub way-turn : {m : ℕ} → m ≡ suc d → Way F A E W i d n → 3 < get_or F n 0 → Way F A E (set W d n) i m (n + 1)
-    way-turn q w f = rw q (record { part = part-below w.part (omega arith) (λ z. omega (arith, z)); turns = λ k h. pick k h (ℕ_discrete k d); last = rw here (record { met = λ j K b L L' r h M. M; ends = omega arith }); deep = omega (arith, w.deep); low = next-inside w.part (omega arith) })
+    pub way_turn : {m : ℕ} → m ≡ suc d → Way F A E W i d n → 3 < get_or F n 0 → Way F A E (set W d n) i m (n + 1)
+    way_turn q w f = rw q (record { part = part_below w.part (omega arith) (λ z. omega (arith, z)); turns = λ k h. pick k h (ℕ_discrete k d); last = rw here (record { met = λ j K b L L' r h M. M; ends = omega arith }); deep = omega (arith, w.deep); low = next_inside w.part (omega arith) })
       where
         here : get_or (set W d n) d 0 ≡ n
         here = get_or-set_same W d n 0 l
 
         pick : (k : ℕ) → k < suc d → Dec (k ≡ d) → Turn F A E (set W d n) i k
-        pick k h (yes e) = rw e (record { part = rw here w.part; form = rw here f; from = rw (here, kept-inner W d n d (omega arith)) w.last; deep = rw here w.deep })
-        pick k h (no e) = let g : k < d = omega arith in let T = w.turns k g in record { part = rw (kept W d n k g) T.part; form = rw (kept W d n k g) T.form; from = rw (kept W d n k g, kept-inner W d n k (omega arith)) T.from; deep = rw (kept W d n k g) T.deep }
+        pick k h (yes e) = rw e (record { part = rw here w.part; form = rw here f; from = rw (here, kept_inner W d n d (omega arith)) w.last; deep = rw here w.deep })
+        pick k h (no e) = let g : k < d = omega arith in let T = w.turns k g in record { part = rw (kept W d n k g) T.part; form = rw (kept W d n k g) T.form; from = rw (kept W d n k g, kept_inner W d n k (omega arith)) T.from; deep = rw (kept W d n k g) T.deep }
 
-pub left-turn : (F E W : List ℕ) (i n : Node) (d m : ℕ) → d < length W → m ≡ suc d → Left F E W i d → (get_or F n 0 ≢ 6 → i < get_or E (n + 1) 0) → Left F E (set W d n) i m
-left-turn F E W i n d m l q f g k h = pick (ℕ_discrete k d)
+pub left_turn : (F E W : List ℕ) (i n : Node) (d m : ℕ) → d < length W → m ≡ suc d → Left F E W i d → (get_or F n 0 ≢ 6 → i < get_or E (n + 1) 0) → Left F E (set W d n) i m
+left_turn F E W i n d m l q f g k h = pick (ℕ_discrete k d)
   where
     pick : Dec (k ≡ d) → get_or F (get_or (set W d n) k 0) 0 ≢ 6 → i < get_or E (get_or (set W d n) k 0 + 1) 0
     pick (yes e) = rw (e, get_or-set_same W d n 0 l) g
@@ -145,19 +145,19 @@ module _ {F A E W K L L' : List ℕ} {i n : Node} {s : Stand} {listing : Bool} {
   before : get_or F n 0 ≢ 6 → i < get_or E (n + 1) 0
   before = rw e (w.left j h)
 
-  pub back-hidden : {r : Label} → get_or F n 0 ≡ 6 → Hides (get_or A n 0) l r → Meets F A E K (inner W j) i listing L L' (record { label = r; count = c })
-  back-hidden f H = up (meets-hidden f here H)
+  pub back_hidden : {r : Label} → get_or F n 0 ≡ 6 → Hides (get_or A n 0) l r → Meets F A E K (inner W j) i listing L L' (record { label = r; count = c })
+  back_hidden f H = up (meets_hidden f here H)
 
-  pub back-left : get_or F n 0 ≢ 6 → Seeks (get_or F n 0) listing l false → Meets F A E K (inner W j) i listing L L' (record { label = l; count = c })
-  back-left f z = up (meets-left refl turns f (before f) z here)
+  pub back_left : get_or F n 0 ≢ 6 → Seeks (get_or F n 0) listing l false → Meets F A E K (inner W j) i listing L L' (record { label = l; count = c })
+  back_left f z = up (meets_left refl turns f (before f) z here)
 
-  pub back-both : {L'' : List ℕ} {m : Node} {c' : ℕ} → get_or F n 0 ≢ 6 → Seeks (get_or F n 0) listing l true → m ≡ get_or E (n + 1) 0 → Lists F A E K m (Co l) L' c L'' c' → Meets F A E K (inner W j) i listing L L'' (record { label = l; count = c' })
-  back-both f z d N = up (meets-both d z.0 (rw d (before f)) z.1 here N)
+  pub back_both : {L'' : List ℕ} {m : Node} {c' : ℕ} → get_or F n 0 ≢ 6 → Seeks (get_or F n 0) listing l true → m ≡ get_or E (n + 1) 0 → Lists F A E K m (Co l) L' c L'' c' → Meets F A E K (inner W j) i listing L L'' (record { label = l; count = c' })
+  back_both f z d N = up (meets_both d z.0 (rw d (before f)) z.1 here N)
 
 -- the partners listed so far stand before the second part
-pub few-before : {F A E K L L' : List ℕ} {i n : Node} {listing : Bool} {r : Met} (W : List ℕ) (k j : ℕ) → k ≡ suc j → n ≡ get_or W j 0 → Meets F A E K (inner W k) i listing L L' r → SomePart F A E (n + 1) → r.count ≤ get_or E (n + 1) 0
-few-before W k j q e M S = let N = rw (q, sym e) at M in omega (arith, N.few S.0 S.1, part_end S.0 S.1)
+pub few_before : {F A E K L L' : List ℕ} {i n : Node} {listing : Bool} {r : Met} (W : List ℕ) (k j : ℕ) → k ≡ suc j → n ≡ get_or W j 0 → Meets F A E K (inner W k) i listing L L' r → SomePart F A E (n + 1) → r.count ≤ get_or E (n + 1) 0
+few_before W k j q e M S = let N = rw (q, sym e) at M in omega (arith, N.few S.0 S.1, part_end S.0 S.1)
 
 -- no turn is left
-pub back-root : {F A E K L L' : List ℕ} {i : Node} {listing : Bool} {r : Met} (W : List ℕ) (k : ℕ) → k ≡ 0 → Meets F A E K (inner W k) i listing L L' r → Meets F A E K 0 i listing L L' r
-back-root W k e M = rw e at M
+pub back_root : {F A E K L L' : List ℕ} {i : Node} {listing : Bool} {r : Met} (W : List ℕ) (k : ℕ) → k ≡ 0 → Meets F A E K (inner W k) i listing L L' r → Meets F A E K 0 i listing L L' r
+back_root W k e M = rw e at M

@@ -1,7 +1,7 @@
 -- The way to a place: the nodes at which it turns, into the first of two parts or under a restriction.
 use Rattle.std.specs.Prelude.{◌≡◌, ◌⊎◌, ◌≢◌, List, Bool, true, false, ℕ, zero, suc, ◌+◌, ◌<◌, ◌≤◌, get_or}
 use Rattle.ccsk.specs.Term.{Node}
-use Rattle.format.specs.Limits.{node-limit}
+use Rattle.format.specs.Limits.{node_limit}
 use Rattle.offers.specs.Forms.{SomePart}
 use Rattle.partners.specs.declared.Met.{Met}
 use Rattle.partners.specs.declared.Stand.{Stand}
@@ -35,7 +35,7 @@ pub record Way (F A E W : List ℕ) (i : Node) (d : ℕ) (n : Node) : Type 0 whe
   pub turns : (k : ℕ) → k < d → Turn F A E W i k
   pub last : Onward F A E i (inner W d) n
   pub deep : d ≤ n
-  pub low : n < node-limit
+  pub low : n < node_limit
 
 -- where the way turns into the first of two parts, the place i stands before the second
 abbrev pub Left : List ℕ → List ℕ → List ℕ → Node → ℕ → Type 0

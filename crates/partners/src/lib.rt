@@ -1,6 +1,6 @@
 // The partners of a place: a way down to it, and on the way back what stands to the right of it at each parallel.
 ghost use Rattle.std.specs.Prelude.{◌≡◌, cond, ◌+◌, ◌<◌, ◌≤◌, length, get_or};
-ghost use Rattle.format.specs.Limits.{node-limit};
+ghost use Rattle.format.specs.Limits.{node_limit};
 ghost use Rattle.ccsk.specs.Term.{Co};
 ghost use Rattle.offers.specs.Forms.{SomePart};
 ghost use Rattle.index.specs.Whole.{Room};
@@ -66,8 +66,8 @@ fn shown_if(test: bool, action: u8) -> u8
 
 // The node of a turn; there is one below it.
 fn turn_at(k: usize, way: &[u16; NODES]) -> usize
-    requires { (k < length way.now) × (k < node-limit) × (get_or way.now k 0 + 1 < node-limit) }
-    ensures { (result ≡ get_or way.now k 0) × (result + 1 < node-limit) }
+    requires { (k < length way.now) × (k < node_limit) × (get_or way.now k 0 + 1 < node_limit) }
+    ensures { (result ≡ get_or way.now k 0) × (result + 1 < node_limit) }
 {
     wide(way[k])
 }
@@ -82,8 +82,8 @@ pub fn lead(
     way: &mut [u16; NODES],
 ) -> Stand
     requires way { Way forms.now args.now ends.now way.old i from.turns from.node }
-    requires room { Room forms.now args.now ends.now × (length way.old ≡ node-limit) }
-    ensures { WayTo forms.now args.now ends.now way.new i result × (length way.new ≡ node-limit) }
+    requires room { Room forms.now args.now ends.now × (length way.old ≡ node_limit) }
+    ensures { WayTo forms.now args.now ends.now way.new i result × (length way.new ≡ node_limit) }
 {
     let mut turns = from.turns;
     let mut n = from.node;
@@ -154,7 +154,7 @@ fn list_answers(
     count: usize,
 ) -> usize
     requires some_part { SomePart forms.now args.now ends.now n }
-    requires room { Room forms.now args.now ends.now × (length row.old ≡ node-limit) × (count ≤ n) }
+    requires room { Room forms.now args.now ends.now × (length row.old ≡ node_limit) × (count ≤ n) }
     ensures { Lists forms.now args.now ends.now sets.now n (Co label) row.old count row.new result }
 {
     let want = complements(only(label));
@@ -180,7 +180,7 @@ pub fn meet(
     row: &mut [u16; NODES],
 ) -> Met
     requires way_to { WayTo forms.now args.now ends.now way.now i to }
-    requires room { Room forms.now args.now ends.now × (length way.now ≡ node-limit) × (length row.old ≡ node-limit) }
+    requires room { Room forms.now args.now ends.now × (length way.now ≡ node_limit) × (length row.old ≡ node_limit) }
     ensures { Meets forms.now args.now ends.now sets.now 0 i listing row.old row.new result }
 {
     let mut label = to.label;

@@ -10,7 +10,7 @@ use borrow.Author.Tests.{ne_eqb, eq-eqb, le-leb, lt-leb}
 use lib.ListN.{length, drop, get_or, length-drop}
 use lib.Seq.{get_or-drop, drop-drop, drop-cons}
 use Rattle.format.specs.Read.{Reading, refused, kind_of, node}
-use Rattle.reader.specs.Head.{body, childCount, under, NodeAt, NoNodeAt, KindAt}
+use Rattle.reader.specs.Head.{body, count_of_children, under, NodeAt, NoNodeAt, KindAt}
 
 -- what holds of the five kinds holds of each number to 4
 pub by_kind : (P : ℕ → Type 0) → P 0 → P 1 → P 2 → P 3 → P 4 → (n : ℕ) → n ≤ 4 → P n
@@ -38,50 +38,50 @@ bad_kind s (suc (suc (suc zero))) h r k = absurd (omega arith)
 bad_kind s (suc (suc (suc (suc zero)))) h r k = absurd (omega arith)
 bad_kind s (suc (suc (suc (suc (suc b))))) h r k = refl
 
-cut-prefix : (s : List ℕ) → length s < 3 → Offends 1 s
+cut_prefix : (s : List ℕ) → length s < 3 → Offends 1 s
 unfolding kind_of node Offends
-cut-prefix [] h r k = refl
-cut-prefix (a ∷ []) h r k = refl
-cut-prefix (a ∷ (b ∷ [])) h r k = refl
-cut-prefix (a ∷ (b ∷ (c ∷ s))) h r k = absurd (omega arith)
+cut_prefix [] h r k = refl
+cut_prefix (a ∷ []) h r k = refl
+cut_prefix (a ∷ (b ∷ [])) h r k = refl
+cut_prefix (a ∷ (b ∷ (c ∷ s))) h r k = absurd (omega arith)
 
-cut-restriction : (s : List ℕ) → length s < 1 → Offends 4 s
+cut_restriction : (s : List ℕ) → length s < 1 → Offends 4 s
 unfolding kind_of node Offends
-cut-restriction [] h r k = refl
-cut-restriction (a ∷ s) h r k = absurd (omega arith)
+cut_restriction [] h r k = refl
+cut_restriction (a ∷ s) h r k = absurd (omega arith)
 
-no-action : (s : List ℕ) → 3 ≤ length s → get_or s 0 0 ≡ 128 → Offends 1 s
+no_action : (s : List ℕ) → 3 ≤ length s → get_or s 0 0 ≡ 128 → Offends 1 s
 unfolding kind_of node Offends
-no-action [] h e r k = absurd (omega arith)
-no-action (a ∷ []) h e r k = absurd (omega arith)
-no-action (a ∷ (b ∷ [])) h e r k = absurd (omega arith)
-no-action (a ∷ (b ∷ (c ∷ s))) h e r k = rw (eq-eqb a 128 e)
+no_action [] h e r k = absurd (omega arith)
+no_action (a ∷ []) h e r k = absurd (omega arith)
+no_action (a ∷ (b ∷ [])) h e r k = absurd (omega arith)
+no_action (a ∷ (b ∷ (c ∷ s))) h e r k = rw (eq-eqb a 128 e)
 
-name-zero : (s : List ℕ) → 1 ≤ length s → get_or s 0 0 ≡ 0 → Offends 4 s
+name_zero : (s : List ℕ) → 1 ≤ length s → get_or s 0 0 ≡ 0 → Offends 4 s
 unfolding kind_of node Offends
-name-zero [] h e r k = absurd (omega arith)
-name-zero (a ∷ s) h e r k = rw (lt-leb 1 a (omega arith))
+name_zero [] h e r k = absurd (omega arith)
+name_zero (a ∷ s) h e r k = rw (lt-leb 1 a (omega arith))
 
-name-large : (s : List ℕ) → 1 ≤ length s → (get_or s 0 0 ≡ 0 → ⊥) → 127 < get_or s 0 0 → Offends 4 s
+name_large : (s : List ℕ) → 1 ≤ length s → (get_or s 0 0 ≡ 0 → ⊥) → 127 < get_or s 0 0 → Offends 4 s
 unfolding kind_of node Offends
-name-large [] h z e r k = absurd (omega arith)
-name-large (a ∷ s) h z e r k = rw (le-leb 1 a (omega arith), lt-leb a 127 (omega arith))
+name_large [] h z e r k = absurd (omega arith)
+name_large (a ∷ s) h z e r k = rw (le-leb 1 a (omega arith), lt-leb a 127 (omega arith))
 
 -- a node of kind b whose body the bytes s begin with
 Good : ℕ → List ℕ → Type 0
 Good b s = (r : ℕ → List ℕ → Reading) (k : ℕ) → node (kind_of b) r k s ≡ under (kind_of b) (b ∷ s) 0 r k (drop (body b) s)
 
-good-prefix : (s : List ℕ) → 3 ≤ length s → (get_or s 0 0 ≡ 128 → ⊥) → Good 1 s
+good_prefix : (s : List ℕ) → 3 ≤ length s → (get_or s 0 0 ≡ 128 → ⊥) → Good 1 s
 unfolding kind_of node under Good
-good-prefix [] h e r k = absurd (omega arith)
-good-prefix (a ∷ []) h e r k = absurd (omega arith)
-good-prefix (a ∷ (b ∷ [])) h e r k = absurd (omega arith)
-good-prefix (a ∷ (b ∷ (c ∷ s))) h e r k = rw (ne_eqb a 128 e)
+good_prefix [] h e r k = absurd (omega arith)
+good_prefix (a ∷ []) h e r k = absurd (omega arith)
+good_prefix (a ∷ (b ∷ [])) h e r k = absurd (omega arith)
+good_prefix (a ∷ (b ∷ (c ∷ s))) h e r k = rw (ne_eqb a 128 e)
 
-good-restriction : (s : List ℕ) → 1 ≤ length s → (get_or s 0 0 ≡ 0 → ⊥) × (get_or s 0 0 ≤ 127) → Good 4 s
+good_restriction : (s : List ℕ) → 1 ≤ length s → (get_or s 0 0 ≡ 0 → ⊥) × (get_or s 0 0 ≤ 127) → Good 4 s
 unfolding kind_of node under Good
-good-restriction [] h e r k = absurd (omega arith)
-good-restriction (a ∷ s) h e r k = rw (le-leb 1 a (omega arith), le-leb a 127 (omega arith))
+good_restriction [] h e r k = absurd (omega arith)
+good_restriction (a ∷ s) h e r k = rw (le-leb 1 a (omega arith), le-leb a 127 (omega arith))
 
 -- the body may as well be looked up in the whole list
 under_at : (s : List ℕ) (at : ℕ) (s' : List ℕ) (r : ℕ → List ℕ → Reading) (k b : ℕ) → b ≤ 4
@@ -104,7 +104,7 @@ module _ (s : List ℕ) (at : ℕ) where
   first = get_or-drop (at + 1) s 0 0 ∙ rw add-zero
 
   found : (b : ℕ) → b ≤ 4 → KindAt b s at → body b ≤ length s - (at + 1) → Good b (drop (at + 1) s)
-      → NodeAt s at b (childCount b) (at + 1 + body b)
+      → NodeAt s at b (count_of_children b) (at + 1 + body b)
   unfolding Good
   found b k h l g = record {
     byte = h.1;
@@ -118,18 +118,18 @@ module _ (s : List ℕ) (at : ℕ) where
       whole : b ∷ drop (at + 1) s ≡ drop at s
       whole = rw (h.1, add-one at, ← drop-cons s at 0 h.0)
 
-  pub at-no-kind : (b : ℕ) → b ≡ get_or s at 0 → 4 < b → NoNodeAt s at
-  at-no-kind b e h = to b e (bad_kind _ b h)
+  pub at_no_kind : (b : ℕ) → b ≡ get_or s at 0 → 4 < b → NoNodeAt s at
+  at_no_kind b e h = to b e (bad_kind _ b h)
 
-  pub at-nil : KindAt 0 s at → NodeAt s at 0 (childCount 0) (at + 1 + body 0)
+  pub at_nil_lem : KindAt 0 s at → NodeAt s at 0 (count_of_children 0) (at + 1 + body 0)
   unfolding kind_of node under Good
-  at-nil h = found 0 (omega arith) h (omega arith) (λ r k. refl)
+  at_nil_lem h = found 0 (omega arith) h (omega arith) (λ r k. refl)
 
   -- a choice or a parallel: what is known of one is known of the other
-  pub at-two : (b : ℕ) → b ≤ 4 → KindAt b s at → (b ≡ 0 → ⊥) → (b ≡ 1 → ⊥) → (b ≡ 4 → ⊥)
-      → NodeAt s at b (childCount 3) (at + 1 + body 3)
+  pub at_two_lem : (b : ℕ) → b ≤ 4 → KindAt b s at → (b ≡ 0 → ⊥) → (b ≡ 1 → ⊥) → (b ≡ 4 → ⊥)
+      → NodeAt s at b (count_of_children 3) (at + 1 + body 3)
   unfolding kind_of node under Good
-  at-two = by_kind (λ b. KindAt b s at → (b ≡ 0 → ⊥) → (b ≡ 1 → ⊥) → (b ≡ 4 → ⊥) → NodeAt s at b (childCount 3) (at + 1 + body 3))
+  at_two_lem = by_kind (λ b. KindAt b s at → (b ≡ 0 → ⊥) → (b ≡ 1 → ⊥) → (b ≡ 4 → ⊥) → NodeAt s at b (count_of_children 3) (at + 1 + body 3))
       (λ h x y z. absurd (x refl))
       (λ h x y z. absurd (y refl))
       (λ h x y z. found 2 (omega arith) h (omega arith) (λ r k. refl))
@@ -138,25 +138,25 @@ module _ (s : List ℕ) (at : ℕ) where
 
 -- a prefix, whose body has n bytes
 module _ (s : List ℕ) (at n : ℕ) (h : KindAt 1 s at) (e : n ≡ body 1) where
-  pub prefix-cut : length s - (at + 1) < n → NoNodeAt s at
-  prefix-cut l = to s at 1 h.1 (cut-prefix _ (omega (arith, length-drop (at + 1) s)))
+  pub prefix_cut : length s - (at + 1) < n → NoNodeAt s at
+  prefix_cut l = to s at 1 h.1 (cut_prefix _ (omega (arith, length-drop (at + 1) s)))
 
-  pub prefix-no-action : n ≤ length s - (at + 1) → get_or s (at + 1) 0 ≡ 128 → NoNodeAt s at
-  prefix-no-action l x = to s at 1 h.1 (no-action _ (omega (arith, length-drop (at + 1) s)) (first s at ∙ x))
+  pub prefix_no_action : n ≤ length s - (at + 1) → get_or s (at + 1) 0 ≡ 128 → NoNodeAt s at
+  prefix_no_action l x = to s at 1 h.1 (no_action _ (omega (arith, length-drop (at + 1) s)) (first s at ∙ x))
 
-  pub prefix-found : n ≤ length s - (at + 1) → (get_or s (at + 1) 0 ≡ 128 → ⊥) → NodeAt s at 1 (childCount 1) (at + 1 + n)
-  prefix-found l x = rw e (found s at 1 (omega arith) h (omega arith) (good-prefix _ (omega (arith, length-drop (at + 1) s)) (λ y. x (sym (first s at) ∙ y))))
+  pub prefix_found : n ≤ length s - (at + 1) → (get_or s (at + 1) 0 ≡ 128 → ⊥) → NodeAt s at 1 (count_of_children 1) (at + 1 + n)
+  prefix_found l x = rw e (found s at 1 (omega arith) h (omega arith) (good_prefix _ (omega (arith, length-drop (at + 1) s)) (λ y. x (sym (first s at) ∙ y))))
 
 -- a restriction, whose body has n bytes
 module _ (s : List ℕ) (at n : ℕ) (h : KindAt 4 s at) (e : n ≡ body 4) where
-  pub restriction-cut : length s - (at + 1) < n → NoNodeAt s at
-  restriction-cut l = to s at 4 h.1 (cut-restriction _ (omega (arith, length-drop (at + 1) s)))
+  pub restriction_cut : length s - (at + 1) < n → NoNodeAt s at
+  restriction_cut l = to s at 4 h.1 (cut_restriction _ (omega (arith, length-drop (at + 1) s)))
 
-  pub restriction-zero : n ≤ length s - (at + 1) → get_or s (at + 1) 0 ≡ 0 → NoNodeAt s at
-  restriction-zero l x = to s at 4 h.1 (name-zero _ (omega (arith, length-drop (at + 1) s)) (first s at ∙ x))
+  pub restriction_zero : n ≤ length s - (at + 1) → get_or s (at + 1) 0 ≡ 0 → NoNodeAt s at
+  restriction_zero l x = to s at 4 h.1 (name_zero _ (omega (arith, length-drop (at + 1) s)) (first s at ∙ x))
 
-  pub restriction-large : n ≤ length s - (at + 1) → (get_or s (at + 1) 0 ≡ 0 → ⊥) → 127 < get_or s (at + 1) 0 → NoNodeAt s at
-  restriction-large l z x = to s at 4 h.1 (name-large _ (omega (arith, length-drop (at + 1) s)) (λ y. z (sym (first s at) ∙ y)) (omega (arith, first s at)))
+  pub restriction_large : n ≤ length s - (at + 1) → (get_or s (at + 1) 0 ≡ 0 → ⊥) → 127 < get_or s (at + 1) 0 → NoNodeAt s at
+  restriction_large l z x = to s at 4 h.1 (name_large _ (omega (arith, length-drop (at + 1) s)) (λ y. z (sym (first s at) ∙ y)) (omega (arith, first s at)))
 
-  pub restriction-found : n ≤ length s - (at + 1) → (get_or s (at + 1) 0 ≡ 0 → ⊥) → get_or s (at + 1) 0 ≤ 127 → NodeAt s at 4 (childCount 4) (at + 1 + n)
-  restriction-found l z x = rw e (found s at 4 (omega arith) h (omega arith) (good-restriction _ (omega (arith, length-drop (at + 1) s)) (λ y. z (sym (first s at) ∙ y), omega (arith, first s at))))
+  pub restriction_found : n ≤ length s - (at + 1) → (get_or s (at + 1) 0 ≡ 0 → ⊥) → get_or s (at + 1) 0 ≤ 127 → NodeAt s at 4 (count_of_children 4) (at + 1 + n)
+  restriction_found l z x = rw e (found s at 4 (omega arith) h (omega arith) (good_restriction _ (omega (arith, length-drop (at + 1) s)) (λ y. z (sym (first s at) ∙ y), omega (arith, first s at))))

@@ -12,9 +12,9 @@ pub stacked-length : (n : ℕ) (l : List ℕ) → length (stacked n l) ≡ n
 stacked-length zero l = refl
 stacked-length (suc n) l = ap suc (stacked-length n l)
 
-pub stacked-top : (n : ℕ) (l : List ℕ) → 0 < n → stacked n l ≡ get_or l (n - 1) 0 ∷ stacked (n - 1) l
-stacked-top zero l h = absurd (omega arith)
-stacked-top (suc n) l h = simp sub-one
+pub stacked_top : (n : ℕ) (l : List ℕ) → 0 < n → stacked n l ≡ get_or l (n - 1) 0 ∷ stacked (n - 1) l
+stacked_top zero l h = absurd (omega arith)
+stacked_top (suc n) l h = simp sub-one
 
 stacked-set : (n : ℕ) (l : List ℕ) (i v : ℕ) → n ≤ i → stacked n (set l i v) ≡ stacked n l
 stacked-set zero l i v h = refl
@@ -26,10 +26,10 @@ module _ (n : ℕ) (a : List ℕ) (d : ℕ) (l : List ℕ) (e : stacked n a ≡ 
   some = omega (arith, stacked-length n a, ap length e)
 
   both : get_or a (n - 1) 0 ∷ stacked (n - 1) a ≡ d ∷ l
-  both = sym (stacked-top n a some) ∙ e
+  both = sym (stacked_top n a some) ∙ e
 
-  pub top-is : get_or a (n - 1) 0 ≡ d
-  top-is = let b = both in cc
+  pub top_is : get_or a (n - 1) 0 ≡ d
+  top_is = let b = both in cc
 
   -- the top goes
   pub popped : stacked (n - 1) a ≡ l
@@ -38,7 +38,7 @@ module _ (n : ℕ) (a : List ℕ) (d : ℕ) (l : List ℕ) (e : stacked n a ≡ 
   module _ (v : ℕ) (h : n ≤ length a) where
     -- the top gives way to v
     pub replaced : stacked n (set a (n - 1) v) ≡ v ∷ l
-    replaced = stacked-top n (set a (n - 1) v) some
+    replaced = stacked_top n (set a (n - 1) v) some
         ∙ rw (get_or-set_same a (n - 1) v 0 (omega (arith, some)), stacked-set (n - 1) a (n - 1) v (omega arith), popped)
 
     -- the top gives way to v, and v comes once more

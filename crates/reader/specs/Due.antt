@@ -1,6 +1,6 @@
 -- What is due while a record is read: a stack in an array, and what reading the terms on it comes to.
 use Rattle.std.specs.Prelude.{◌≡◌, List, [], ◌∷◌, ℕ, zero, suc, ◌+◌, ◌-◌, ◌≤◌, ◌<◌, length, drop, get_or}
-use Rattle.format.specs.Limits.{node-limit, depth-limit}
+use Rattle.format.specs.Limits.{node_limit, depth_limit}
 use Rattle.format.specs.Read.{Reading, refused, term, read, Refuses}
 use Rattle.reader.specs.declared.Head.{Head}
 use Rattle.reader.specs.declared.Head.TheVariants.{Refused, Node}
@@ -34,20 +34,20 @@ read_all (d ∷ ds) k s = after (read d k s) (read_all ds)
 -- each term due has levels only for what is left of the limit above the terms due after it
 abbrev pub Fits : List ℕ → Type 0
 Fits [] = Unit {0}
-Fits (d ∷ ds) = (d + length ds ≤ depth-limit) × Fits ds
+Fits (d ∷ ds) = (d + length ds ≤ depth_limit) × Fits ds
 
 -- What is left to read from the place `at` of s comes to what the whole record comes to.
 pub record Remains (s : List ℕ) (levels : List ℕ) (many left at : ℕ) : Type 0 where
-  pub same : read_all (stacked many levels) left (drop at s) ≡ read_all (depth-limit ∷ []) node-limit s
+  pub same : read_all (stacked many levels) left (drop at s) ≡ read_all (depth_limit ∷ []) node_limit s
   pub fits : Fits (stacked many levels)
-  pub room : length levels ≡ suc depth-limit
-  pub few : left ≤ node-limit
+  pub room : length levels ≡ suc depth_limit
+  pub few : left ≤ node_limit
 
 -- A good node was due at the place `at` of s and is passed: its children are due.
 pub record Passed (s : List ℕ) (at left many kind children next : ℕ) (levels : List ℕ) : Type 0 where
   pub inside : at < length s
   pub nodes : 0 < left
-  pub deep : many ≤ depth-limit
+  pub deep : many ≤ depth_limit
   pub good : NodeAt s at kind children next
   pub remains : Remains s levels (many - 1 + children) (left - 1) next
 

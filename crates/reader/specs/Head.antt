@@ -1,30 +1,30 @@
 -- One node without its children, as `node_at` finds it, against the reading of a record.
 use Rattle.std.specs.Prelude.{◌≡◌, List, ℕ, ◌<◌, ◌≤◌, ◌+◌, length, drop, get_or}
 use Rattle.ccsk.specs.Term.{nil, pre, cho, par, res}
-pub use Rattle.format.specs.Kinds.{childCount}
-use Rattle.format.specs.Kinds.{bodyLength}
-use Rattle.format.specs.Read.{Reading, refused, term, Kind, nil-kind, prefix-kind, choice-kind, parallel-kind, restriction-kind, no_kind, kind_of, key_of, node, oneChild, twoChildren}
+pub use Rattle.format.specs.Kinds.{count_of_children}
+use Rattle.format.specs.Kinds.{length_of_body}
+use Rattle.format.specs.Read.{Reading, refused, term, Kind, nil-kind, prefix-kind, choice-kind, parallel-kind, restriction-kind, no_kind, kind_of, key_of, node, one_child, two_children}
 use Rattle.reader.specs.declared.Head.{Head}
 use Rattle.reader.specs.declared.Head.TheVariants.{Refused, Node}
 
 -- how many bytes a body has, by kind
 abbrev pub body : ℕ → ℕ
-body = bodyLength
+body = length_of_body
 
 -- A good node with its byte of kind at the place `at` of s: what is made of its children. r reads a child, s' are the bytes after the body.
 unfoldable pub under : Kind → List ℕ → ℕ → (ℕ → List ℕ → Reading) → ℕ → List ℕ → Reading
 under nil-kind s at r k s' = term nil s' k
-under prefix-kind s at r k s' = oneChild (pre (get_or s (at + 1) 0) (key_of (get_or s (at + 2) 0) (get_or s (at + 3) 0))) r k s'
-under choice-kind s at r k s' = twoChildren cho r k s'
-under parallel-kind s at r k s' = twoChildren par r k s'
-under restriction-kind s at r k s' = oneChild (res (get_or s (at + 1) 0)) r k s'
+under prefix-kind s at r k s' = one_child (pre (get_or s (at + 1) 0) (key_of (get_or s (at + 2) 0) (get_or s (at + 3) 0))) r k s'
+under choice-kind s at r k s' = two_children cho r k s'
+under parallel-kind s at r k s' = two_children par r k s'
+under restriction-kind s at r k s' = one_child (res (get_or s (at + 1) 0)) r k s'
 under no_kind s at r k s' = refused 1
 
 -- At the place `at` of s stands a good node: its kind, how many children it has, and where its body ends.
 pub record NodeAt (s : List ℕ) (at kind children next : ℕ) : Type 0 where
   pub byte : kind ≡ get_or s at 0
   pub known : kind ≤ 4
-  pub count : children ≡ childCount kind
+  pub count : children ≡ count_of_children kind
   pub ends : next ≡ at + 1 + body kind
   pub within : next ≤ length s
   pub shape : (r : ℕ → List ℕ → Reading) (k : ℕ) → node (kind_of kind) r k (drop (at + 1) s) ≡ under (kind_of kind) s at r k (drop next s)

@@ -1,7 +1,7 @@
 // Reading a record (01, The record): one node at a place, the node that is due, and the whole record.
 ghost use Rattle.std.specs.Prelude.{◌<◌, ◌≤◌, ◌≡◌, ◌≢◌, length};
 ghost use Rattle.operations.specs.Ask.{ReadRecord};
-ghost use Rattle.reader.specs.Head.{body, childCount, KindAt, Headed};
+ghost use Rattle.reader.specs.Head.{body, count_of_children, KindAt, Headed};
 ghost use Rattle.reader.specs.Walk.{Due};
 ghost use Rattle.reader.specs.Due.{Remains, Passes};
 ghost use Rattle.shared.specs.Number.{refusal, value};
@@ -55,7 +55,7 @@ pub fn body_length(kind: usize) -> usize
 // How many children a node of a known kind has.
 pub fn child_count(kind: usize) -> usize
     requires { kind ≤ 4 }
-    ensures { result ≡ childCount kind }
+    ensures { result ≡ count_of_children kind }
 {
     CHILDREN[kind]
 }

@@ -11,5 +11,5 @@ module _ (l row : List ℕ) (n : ℕ) (e : n ≡ length l) where
   pub too_short : length row < n → Filled l row 9 0 row
   too_short h = Filled.short (omega arith)
 
-  pub filled-front : n ≤ length row → (row' : List ℕ) → Fronted l row row' → Filled l row 0 n row'
-  filled-front h row' f = rw (e, f) (Filled.filled (omega arith))
+  pub filled_front : n ≤ length row → (row' : List ℕ) → Fronted l row row' → Filled l row 0 n row'
+  filled_front h row' f = rw (e, f) (Filled.filled (omega arith))

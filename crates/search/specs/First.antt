@@ -2,7 +2,7 @@
 use Rattle.std.specs.Prelude.{◌≡◌, ◌↔◌, List, ℕ, ◌<◌, length, get_or}
 use Rattle.ccsk.specs.Term.{Term, Label, Node}
 use Rattle.operations.specs.Order.{FirstFrom, NoFreeStep}
-use Rattle.format.specs.Limits.{node-limit}
+use Rattle.format.specs.Limits.{node_limit}
 use Rattle.offers.specs.Offers.{Wanted}
 use Rattle.index.specs.Whole.{Rows}
 use Rattle.search.specs.declared.First.{First}
@@ -20,15 +20,15 @@ found (Refused c) = 0
 found None = 0
 found (Found p q l) = 1
 
-abbrev pub first-place : First → Node
-first-place (Refused c) = 0
-first-place None = 0
-first-place (Found p q l) = p
+abbrev pub first_place : First → Node
+first_place (Refused c) = 0
+first_place None = 0
+first_place (Found p q l) = p
 
-abbrev pub second-place : First → Node
-second-place (Refused c) = 0
-second-place None = 0
-second-place (Found p q l) = q
+abbrev pub second_place : First → Node
+second_place (Refused c) = 0
+second_place None = 0
+second_place (Found p q l) = q
 
 abbrev pub label : First → Label
 label (Refused c) = 0
@@ -45,7 +45,7 @@ NextOf t p q (Found p' q' l) = FirstFrom t p q p' q' l
 pub record Ready (t : Term) (n : ℕ) (F A E M : List ℕ) : Type 0 where
   pub rows : Rows t n F A E
   pub marked : (i : Node) → (get_or M i 0 ≡ 1) ↔ Wanted (λ l. l < 256) t i
-  pub room : length M ≡ node-limit
+  pub room : length M ≡ node_limit
 
 -- the rows and marks are those of some term
 abbrev pub SomeReady : ℕ → List ℕ → List ℕ → List ℕ → List ℕ → Type 0

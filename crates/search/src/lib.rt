@@ -2,7 +2,7 @@
 ghost use Rattle.std.specs.Prelude.{◌≡◌, ◌≢◌};
 ghost use Rattle.operations.specs.Ask.{FirstStep};
 ghost use Rattle.shared.specs.Tells.{Tells};
-ghost use Rattle.search.specs.First.{refusal, found, first-place, second-place, label, SomeReady, Next};
+ghost use Rattle.search.specs.First.{refusal, found, first_place, second_place, label, SomeReady, Next};
 
 use index::index;
 use labelset::full;
@@ -90,7 +90,7 @@ fn next_step(
 
 // The first forward step of the record at or after (p, q).
 pub fn first_step(record: &[u8], p: Node, q: Node) -> First
-    ensures { FirstStep «record».now p.0 q.0 (refusal result) (found result) (first-place result) (second-place result) (label result) }
+    ensures { FirstStep «record».now p.0 q.0 (refusal result) (found result) (first_place result) (second_place result) (label result) }
 {
     let mut forms = [0u8; NODES];
     let mut args = [0u8; NODES];

@@ -2,7 +2,7 @@
 use Rattle.std.specs.Prelude.{◌≡◌, List, [], ◌∷◌, ◌++◌, true, cond, ℕ, ◌+◌, ◌<◌, eqb, ltb, get_or}
 use Rattle.ccsk.specs.Numbers.{In}
 use Rattle.ccsk.specs.Term.{Key, Co}
-use Rattle.format.specs.Limits.{node-limit}
+use Rattle.format.specs.Limits.{node_limit}
 use Rattle.keyset.specs.Set.{member}
 use Rattle.rank.specs.Rank.{one_more, rank}
 use Rattle.lasts.specs.Last.{Last, only, Ready}
@@ -41,7 +41,7 @@ pub data Standing (rows : List Last) (k : Key) : ℕ → List Last → ℕ → �
   once : {j : ℕ} → Standing rows k 1 [] 1 j
   twice : {j : ℕ} → Standing rows k 2 [] 2 j
   never : {c j : ℕ} {x : List Last} → ((y : List Last) → ¬ Ready c (x ++ y)) → Standing rows k c x 3 j
-  half : {e : Last} {j : ℕ} → j < node-limit → get_or rows j e ≡ e → Standing rows k 2 (e ∷ []) 4 j
+  half : {e : Last} {j : ℕ} → j < node_limit → get_or rows j e ≡ e → Standing rows k 2 (e ∷ []) 4 j
   ready : {c j : ℕ} {x : List Last} → Ready c x → j ≡ k → Standing rows k c x 5 j
 
 -- so for each key of the set, at its rank

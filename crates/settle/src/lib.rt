@@ -1,6 +1,6 @@
 // The keys that were noted, settled one by one at their ranks: how often each stands, and whether its lasts are ready.
 ghost use Rattle.std.specs.Prelude.{◌≡◌, List, [], ◌∷◌, ◌++◌, ℕ, ◌≤◌, ◌<◌, length, get_or, take};
-ghost use Rattle.format.specs.Limits.{node-limit};
+ghost use Rattle.format.specs.Limits.{node_limit};
 ghost use Rattle.shared.specs.Tells.{Tells};
 ghost use Rattle.keys.specs.Gather.{Holds};
 ghost use Rattle.rank.specs.Rank.{Ranked};
@@ -50,9 +50,9 @@ pub fn tally(
     base: &[u16; BYTES],
     state: &mut [u8; NODES],
 )
-    requires all_len { (length all.now ≡ node-limit) × (n ≤ node-limit) × Small (take n all.now) × Holds marks.now (take n all.now) × Ranked marks.now base.now }
-    requires state_len { (length state.old ≡ node-limit) × Counted marks.now [] state.old }
-    ensures { (length state.new ≡ node-limit) × Counted marks.now (take n all.now) state.new }
+    requires all_len { (length all.now ≡ node_limit) × (n ≤ node_limit) × Small (take n all.now) × Holds marks.now (take n all.now) × Ranked marks.now base.now }
+    requires state_len { (length state.old ≡ node_limit) × Counted marks.now [] state.old }
+    ensures { (length state.new ≡ node_limit) × Counted marks.now (take n all.now) state.new }
 {
     let mut i: usize = 0;
     while i < n {
@@ -64,7 +64,7 @@ pub fn tally(
 
 // Whether the lasts at the rows j and i can be the two halves of a step: one scope, complementary actions.
 fn fit_together(action: &[u8; NODES], scope: &[u16; NODES], j: usize, i: usize) -> bool
-    requires { (length action.now ≡ node-limit) × (length scope.now ≡ node-limit) × (j < node-limit) × (i < node-limit) }
+    requires { (length action.now ≡ node_limit) × (length scope.now ≡ node_limit) × (j < node_limit) × (i < node_limit) }
     ensures { Tells result (Fit action.now scope.now j i) }
 {
     if scope[j] == scope[i] {
@@ -82,8 +82,8 @@ fn meet(
     state: u8,
     slot: u16,
 ) -> Met
-    requires key_len { (length key.now ≡ node-limit) × (length action.now ≡ node-limit) × (length scope.now ≡ node-limit) }
-    requires i_lt_node_limit { (i < node-limit) × (state ≡ 4 → slot < node-limit) }
+    requires key_len { (length key.now ≡ node_limit) × (length action.now ≡ node_limit) × (length scope.now ≡ node_limit) }
+    requires i_lt_node_limit { (i < node_limit) × (state ≡ 4 → slot < node_limit) }
     ensures { (c : ℕ) (x : List Last) → Standing (rows key.entry.now action.now scope.now) (get_or key.entry.now i 0) c x state slot → Standing (rows key.entry.now action.now scope.now) (get_or key.entry.now i 0) c (x ++ (record { key = get_or key.entry.now i 0; action = get_or action.now i 0; scope = get_or scope.now i 0 } ∷ [])) result.state result.slot }
 {
     if state == ONCE {
@@ -135,10 +135,10 @@ pub fn settle(
     base: &[u16; BYTES],
     state: &mut [u8; NODES],
 )
-    requires all_len { (length all.old ≡ node-limit) × (m ≤ node-limit) × Small (take m all.old) × Holds marks.now (take m all.old) × Ranked marks.now base.now }
-    requires key_len { (length key.now ≡ node-limit) × (length action.now ≡ node-limit) × (length scope.now ≡ node-limit) × (n ≤ node-limit) × AllIn marks.now (take n (rows key.now action.now scope.now)) }
-    requires state_len { (length state.old ≡ node-limit) × Counted marks.now [] state.old }
-    ensures { (length state.new ≡ node-limit) × (length all.new ≡ node-limit) × Settled marks.now (take m all.old) (rows key.now action.now scope.now) (take n (rows key.now action.now scope.now)) state.new all.new }
+    requires all_len { (length all.old ≡ node_limit) × (m ≤ node_limit) × Small (take m all.old) × Holds marks.now (take m all.old) × Ranked marks.now base.now }
+    requires key_len { (length key.now ≡ node_limit) × (length action.now ≡ node_limit) × (length scope.now ≡ node_limit) × (n ≤ node_limit) × AllIn marks.now (take n (rows key.now action.now scope.now)) }
+    requires state_len { (length state.old ≡ node_limit) × Counted marks.now [] state.old }
+    ensures { (length state.new ≡ node_limit) × (length all.new ≡ node_limit) × Settled marks.now (take m all.old) (rows key.now action.now scope.now) (take n (rows key.now action.now scope.now)) state.new all.new }
 {
     tally(all, m, marks, base, state);
     let mut i: usize = 0;

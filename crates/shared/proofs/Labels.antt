@@ -10,16 +10,16 @@ use lib.Dec.{eqb}
 use Rattle.ccsk.specs.Term.{Co, On}
 use Rattle.shared.specs.Tells.{Tells}
 
-pub co-none : (l k : ℕ) → l ≡ 0 → ¬ Co l k
-co-none l k e (inl c) = omega arith
-co-none l k e (inr c) = omega arith
+pub co_none : (l k : ℕ) → l ≡ 0 → ¬ Co l k
+co_none l k e (inl c) = omega arith
+co_none l k e (inr c) = omega arith
 
-pub co-middle : (l k : ℕ) → l ≡ 128 → ¬ Co l k
-co-middle l k e (inl c) = omega arith
-co-middle l k e (inr c) = omega arith
+pub co_middle : (l k : ℕ) → l ≡ 128 → ¬ Co l k
+co_middle l k e (inl c) = omega arith
+co_middle l k e (inr c) = omega arith
 
-pub co-name : (l k : ℕ) → l ≢ 0 → l < 128 → Tells (eqb k (l + 128)) (Co l k)
-co-name l k f h = pick (ℕ_discrete k (l + 128))
+pub co_name : (l k : ℕ) → l ≢ 0 → l < 128 → Tells (eqb k (l + 128)) (Co l k)
+co_name l k f h = pick (ℕ_discrete k (l + 128))
   where
     pick : Dec (k ≡ l + 128) → Tells (eqb k (l + 128)) (Co l k)
     pick (yes e) = rw (eq-eqb k (l + 128) e) (inl ((omega arith, omega arith), e))
@@ -29,8 +29,8 @@ co-name l k f h = pick (ℕ_discrete k (l + 128))
         out (inl c) = g c.1
         out (inr c) = omega arith
 
-pub co-coname : (l k : ℕ) → l ≢ 128 → 128 ≤ l → l ≤ 255 → Tells (eqb k (l - 128)) (Co l k)
-co-coname l k f h b = pick (ℕ_discrete k (l - 128))
+pub co_coname : (l k : ℕ) → l ≢ 128 → 128 ≤ l → l ≤ 255 → Tells (eqb k (l - 128)) (Co l k)
+co_coname l k f h b = pick (ℕ_discrete k (l - 128))
   where
     pick : Dec (k ≡ l - 128) → Tells (eqb k (l - 128)) (Co l k)
     pick (yes e) = rw (eq-eqb k (l - 128) e) (inr ((omega arith, omega arith), omega arith))
@@ -41,11 +41,11 @@ co-coname l k f h b = pick (ℕ_discrete k (l - 128))
         out (inr c) = g (omega arith)
 
 -- labels on a name: itself and its co-name
-pub on-name : (a l : ℕ) → a ≢ 0 → a ≤ 127 → l ≡ a → On a l
-on-name a l f h e = ((omega arith, h), inl e)
+pub on_name : (a l : ℕ) → a ≢ 0 → a ≤ 127 → l ≡ a → On a l
+on_name a l f h e = ((omega arith, h), inl e)
 
-pub on-coname : (a l : ℕ) → a ≢ 0 → a ≤ 127 → l ≢ a → Tells (eqb l (a + 128)) (On a l)
-on-coname a l f h g = pick (ℕ_discrete l (a + 128))
+pub on_coname : (a l : ℕ) → a ≢ 0 → a ≤ 127 → l ≢ a → Tells (eqb l (a + 128)) (On a l)
+on_coname a l f h g = pick (ℕ_discrete l (a + 128))
   where
     pick : Dec (l ≡ a + 128) → Tells (eqb l (a + 128)) (On a l)
     pick (yes e) = rw (eq-eqb l (a + 128) e) ((omega arith, h), inr e)
@@ -56,6 +56,6 @@ on-coname a l f h g = pick (ℕ_discrete l (a + 128))
         out (c, inr e) = n e
 
 -- a test that tells whether a statement holds is true exactly if it does
-pub tells-iff : {A : Type 0} (b : Bool) → Tells b A → (b ≡ true) ↔ A
-tells-iff true a = (λ e. a, λ z. refl)
-tells-iff false f = (λ e. absurd (false≢true e), λ a. absurd (f a))
+pub tells_iff : {A : Type 0} (b : Bool) → Tells b A → (b ≡ true) ↔ A
+tells_iff true a = (λ e. a, λ z. refl)
+tells_iff false f = (λ e. absurd (false≢true e), λ a. absurd (f a))

@@ -10,11 +10,11 @@ use lib.Seq.{get_or-set_same, get_or-set_other}
 use Rattle.ccsk.specs.Term.{Node}
 use Rattle.showing.specs.Listed.{Listed}
 
-pub listed-none : {P : Node → Type 0} {L : List ℕ} {c : ℕ} → ((i : Node) → ¬ P i) → Listed P L c L c
-listed-none f = record { more = omega arith; kept = λ k h. refl; each = λ k a b. absurd (omega arith); all = λ i p. absurd (f i p); rising = λ j k a b d. absurd (omega arith) }
+pub listed_none : {P : Node → Type 0} {L : List ℕ} {c : ℕ} → ((i : Node) → ¬ P i) → Listed P L c L c
+listed_none f = record { more = omega arith; kept = λ k h. refl; each = λ k a b. absurd (omega arith); all = λ i p. absurd (f i p); rising = λ j k a b d. absurd (omega arith) }
 
-pub listed-one : {P : Node → Type 0} {L : List ℕ} {c n : ℕ} → c < length L → ((i : Node) → P i ↔ (i ≡ n)) → Listed P L c (set L c n) (c + 1)
-listed-one {P} {L} {c} {n} h f = record {
+pub listed_one : {P : Node → Type 0} {L : List ℕ} {c n : ℕ} → c < length L → ((i : Node) → P i ↔ (i ≡ n)) → Listed P L c (set L c n) (c + 1)
+listed_one {P} {L} {c} {n} h f = record {
   more = omega arith;
   kept = λ k g. get_or-set_other L c k n 0 (λ e. omega arith);
   each = λ k a b. let e : k ≡ c = omega arith in rw (e, get_or-set_same L c n 0 h) ((f n).1 refl);
@@ -27,8 +27,8 @@ listed_same f l = record { more = l.more; kept = l.kept; each = λ k a b. (f _).
 
 -- the nodes of the second list come after those of the first
 module _ {P Q : Node → Type 0} {L L' L'' : List ℕ} {c c' c'' : ℕ} (l : Listed P L c L' c') (m : Listed Q L' c' L'' c'') (o : (i j : Node) → P i → Q j → i < j) where
-  pub listed-both : Listed (λ i. P i ⊎ Q i) L c L'' c''
-  listed-both = record {
+  pub listed_both : Listed (λ i. P i ⊎ Q i) L c L'' c''
+  listed_both = record {
     more = omega (arith, l.more, m.more);
     kept = λ k h. m.kept k (omega (arith, l.more)) ∙ l.kept k h;
     each = λ k a b. each k a b (dec_lt k c');

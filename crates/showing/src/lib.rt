@@ -1,6 +1,6 @@
 // The places of a part that show one of some labels, listed in rising order.
 ghost use Rattle.std.specs.Prelude.{◌≡◌, ◌+◌, ◌≤◌, ◌<◌, length};
-ghost use Rattle.format.specs.Limits.{node-limit};
+ghost use Rattle.format.specs.Limits.{node_limit};
 ghost use Rattle.labelset.specs.Set.{Shows};
 ghost use Rattle.offers.specs.Forms.{SomePart};
 ghost use Rattle.index.specs.Whole.{Room};
@@ -14,8 +14,8 @@ use wanted::shows_none;
 
 // Lists the prefix at node n, whose action is a, if its action is wanted.
 fn list_own(n: usize, a: u8, want: Labels, row: &mut [u16; NODES], count: usize) -> usize
-    requires { (n < node-limit) × (length row.old ≡ node-limit) × (count ≤ n) }
-    ensures { Listed (λ i. (i ≡ n) × Shows want a) row.old count row.new result × (result ≤ n + 1) × (length row.new ≡ node-limit) }
+    requires { (n < node_limit) × (length row.old ≡ node_limit) × (count ≤ n) }
+    ensures { Listed (λ i. (i ≡ n) × Shows want a) row.old count row.new result × (result ≤ n + 1) × (length row.new ≡ node_limit) }
 {
     if has(want, a) {
         row[count] = n as u16;
@@ -41,7 +41,7 @@ pub fn list(
     count: usize,
 ) -> usize
     requires some_part { SomePart forms.now args.now ends.now n }
-    requires room { Room forms.now args.now ends.now × (length row.old ≡ node-limit) × (count ≤ n) }
+    requires room { Room forms.now args.now ends.now × (length row.old ≡ node_limit) × (count ≤ n) }
     ensures { Lists forms.now args.now ends.now sets.now n (Shows (record { a = wa; b = wb; c = wc; d = wd })) row.old count row.new result }
 {
     let mut want = Labels {

@@ -33,6 +33,6 @@ pub record Numbered (ks us ks' us' : List ℕ) (n : ℕ) : Type 0 where
   pub keys : Renamed name ks ks'
   pub ups : Renamed name us us'
   pub keys_below : Below n ks'
-  pub ups-below : Below n us'
+  pub ups_below : Below n us'
   pub some : 0 < n
   pub few : n ≤ length ks + 1

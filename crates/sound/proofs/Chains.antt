@@ -17,19 +17,19 @@ final (one {m = k} b) = (k, b)
 final (more {k = k} c b) = (k, b)
 
 -- each link is one of another relation
-pub chain-map : {R S : ℕ → ℕ → Type 0} {m n : ℕ} → ((x y : ℕ) → R x y → S x y) → Chain R m n → Chain S m n
-chain-map f (one {m = x} {n = y} b) = one (f x y b)
-chain-map f (more {k = x} {n = y} c b) = more (chain-map f c) (f x y b)
+pub chain_map : {R S : ℕ → ℕ → Type 0} {m n : ℕ} → ((x y : ℕ) → R x y → S x y) → Chain R m n → Chain S m n
+chain_map f (one {m = x} {n = y} b) = one (f x y b)
+chain_map f (more {k = x} {n = y} c b) = more (chain_map f c) (f x y b)
 
 -- a chain behind a chain is a chain
-pub chain-join : {R : ℕ → ℕ → Type 0} {m k n : ℕ} → Chain R m k → Chain R k n → Chain R m n
-chain-join c (one b) = more c b
-chain-join c (more d b) = more (chain-join c d) b
+pub chain_join : {R : ℕ → ℕ → Type 0} {m k n : ℕ} → Chain R m k → Chain R k n → Chain R m n
+chain_join c (one b) = more c b
+chain_join c (more d b) = more (chain_join c d) b
 
 -- each link is a chain of another relation
-pub chain-bind : {R S : ℕ → ℕ → Type 0} {m n : ℕ} → ((x y : ℕ) → R x y → Chain S x y) → Chain R m n → Chain S m n
-chain-bind f (one {m = x} {n = y} b) = f x y b
-chain-bind f (more {k = x} {n = y} c b) = chain-join (chain-bind f c) (f x y b)
+pub chain_bind : {R S : ℕ → ℕ → Type 0} {m n : ℕ} → ((x y : ℕ) → R x y → Chain S x y) → Chain R m n → Chain S m n
+chain_bind f (one {m = x} {n = y} b) = f x y b
+chain_bind f (more {k = x} {n = y} c b) = chain_join (chain_bind f c) (f x y b)
 
 module _ (R : ℕ → ℕ → Type 0) (R? : (m n : ℕ) → Dec (R m n)) where
   -- a chain whose numbers in between are all of the list
@@ -46,11 +46,11 @@ module _ (R : ℕ → ℕ → Type 0) (R? : (m n : ℕ) → Dec (R m n)) where
   pub through_chain : (K : List ℕ) (m n : ℕ) → Through K m n → Chain R m n
   through_chain [] m n b = one b
   through_chain (x ∷ K) m n (inl c) = through_chain K m n c
-  through_chain (x ∷ K) m n (inr c) = chain-join (through_chain K m x c.0) (through_chain K x n c.1)
+  through_chain (x ∷ K) m n (inr c) = chain_join (through_chain K m x c.0) (through_chain K x n c.1)
 
-  through-link : (K : List ℕ) (m n : ℕ) → R m n → Through K m n
-  through-link [] m n b = b
-  through-link (x ∷ K) m n b = inl (through-link K m n b)
+  through_link : (K : List ℕ) (m n : ℕ) → R m n → Through K m n
+  through_link [] m n b = b
+  through_link (x ∷ K) m n b = inl (through_link K m n b)
 
   -- what ends or begins at the number in front passes only the others
   to_front : (x : ℕ) (K : List ℕ) (m : ℕ) → Through (x ∷ K) m x → Through K m x
@@ -62,21 +62,21 @@ module _ (R : ℕ → ℕ → Type 0) (R? : (m n : ℕ) → Dec (R m n)) where
   from_front x K n (inr c) = c.1
 
   -- two that meet at a number of the list are one
-  through-join : (K : List ℕ) (m k n : ℕ) → In k K → Through K m k → Through K k n → Through K m n
-  through-join [] m k n i c d = absurd i
-  through-join (x ∷ K) m k n (inl e) c d = inr (to_front x K m (rw e at c), from_front x K n (rw e at d))
-  through-join (x ∷ K) m k n (inr i) (inl c) (inl d) = inl (through-join K m k n i c d)
-  through-join (x ∷ K) m k n (inr i) (inl c) (inr d) = inr (through-join K m k x i c d.0, d.1)
-  through-join (x ∷ K) m k n (inr i) (inr c) (inl d) = inr (c.0, through-join K x k n i c.1 d)
-  through-join (x ∷ K) m k n (inr i) (inr c) (inr d) = inr (c.0, d.1)
+  through_join : (K : List ℕ) (m k n : ℕ) → In k K → Through K m k → Through K k n → Through K m n
+  through_join [] m k n i c d = absurd i
+  through_join (x ∷ K) m k n (inl e) c d = inr (to_front x K m (rw e at c), from_front x K n (rw e at d))
+  through_join (x ∷ K) m k n (inr i) (inl c) (inl d) = inl (through_join K m k n i c d)
+  through_join (x ∷ K) m k n (inr i) (inl c) (inr d) = inr (through_join K m k x i c d.0, d.1)
+  through_join (x ∷ K) m k n (inr i) (inr c) (inl d) = inr (c.0, through_join K x k n i c.1 d)
+  through_join (x ∷ K) m k n (inr i) (inr c) (inr d) = inr (c.0, d.1)
 
   -- where every link ends in a number of K
   module _ (K : List ℕ) (low : (m n : ℕ) → R m n → In n K) where
     -- every chain is one through K
-    pub chain-through : {m n : ℕ} → Chain R m n → Through K m n
-    chain-through (one {m = m} {n = n} b) = through-link K m n b
-    chain-through (more {m = m} {k = k} {n = n} c b) = through-join K m k n (low (final c).0 k (final c).1) (chain-through c) (through-link K k n b)
+    pub chain_through : {m n : ℕ} → Chain R m n → Through K m n
+    chain_through (one {m = m} {n = n} b) = through_link K m n b
+    chain_through (more {m = m} {k = k} {n = n} c b) = through_join K m k n (low (final c).0 k (final c).1) (chain_through c) (through_link K k n b)
 
     -- a chain can be decided
     unfoldable pub chain? : (m n : ℕ) → Dec (Chain R m n)
-    chain? m n = same (through_chain K m n) chain-through (through? K m n)
+    chain? m n = same (through_chain K m n) chain_through (through? K m n)

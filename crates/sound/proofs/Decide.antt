@@ -11,8 +11,8 @@ use Rattle.ccsk.specs.Term.{Term, nil, pre, cho, par, res, Has, Co, On, labels, 
 use Rattle.sound.specs.Sound.{count, Waits, Chosen, Twice, Paired, Apart, Split, Hidden, Ordered, Verdict, sound, fails₁, fails₂, fails₃, fails₄, fails₅, fails₆, fails₇}
 use Rattle.ccsk.specs.Decide.{both, co?, on?}
 use Rattle.ccsk.proofs.Decide.{three, std?}
-use Rattle.ccsk.proofs.Basic.{fresh-labels, has?}
-use Rattle.ccsk.proofs.Keys.{has_in, in-has}
+use Rattle.ccsk.proofs.Basic.{fresh_labels, has?}
+use Rattle.ccsk.proofs.Keys.{has_in, in_has}
 use Rattle.sound.proofs.Top.{ordered?}
 
 abbrev implies : {A B : Type 0} → Dec A → Dec B → Dec (A → B)
@@ -35,12 +35,12 @@ unfoldable pub keys? : (t : Term) (P : ℕ → Type 0) → ((m : ℕ) → Dec (P
 keys? t P d f = pick (each? P d (keys t))
   where
     pick : Dec ((m : ℕ) → In m (keys t) → P m) → Dec ((m : ℕ) → 0 < m → P m)
-    pick (no g) = no (λ h. g (λ m i. h m (in-has m t i).0))
+    pick (no g) = no (λ h. g (λ m i. h m (in_has m t i).0))
     pick (yes g) = yes (λ m p. choose m p (has? m t))
       where
         choose : (m : ℕ) → 0 < m → Dec (Has m t) → P m
         choose m p (yes i) = g m (has_in m t p i)
-        choose m p (no i) = f m (fresh-labels m t i)
+        choose m p (no i) = f m (fresh_labels m t i)
 
 unfoldable pub waits? : (t : Term) → Dec (Waits t)
 waits? nil = yes tt
@@ -64,12 +64,12 @@ twice? t = keys? t (λ m. count m t ≤ 2) (λ m. dec_le (count m t) 2) (λ m e.
 abbrev pub Two : List ℕ → Type 0
 Two x = (a b : ℕ) → x ≡ a ∷ (b ∷ []) → Co a b
 
-pub not-two : {x : List ℕ} → length x ≢ 2 → Two x
-not-two f a b e = absurd (f (ap length e))
+pub not_two : {x : List ℕ} → length x ≢ 2 → Two x
+not_two f a b e = absurd (f (ap length e))
 
 unfoldable pub two? : (x : List ℕ) → Dec (Two x)
-two? [] = yes (not-two (λ e. omega arith))
-two? (a ∷ []) = yes (not-two (λ e. omega arith))
+two? [] = yes (not_two (λ e. omega arith))
+two? (a ∷ []) = yes (not_two (λ e. omega arith))
 two? (a ∷ (b ∷ [])) = pick (co? a b)
   where
     pick : Dec (Co a b) → Dec (Two (a ∷ (b ∷ [])))
@@ -78,10 +78,10 @@ two? (a ∷ (b ∷ [])) = pick (co? a b)
       where
         same : Two (a ∷ (b ∷ []))
         same p q e = let x : a ≡ p = cc in let y : b ≡ q = cc in rw (x, y) at c
-two? (a ∷ (b ∷ (c ∷ x))) = yes (not-two (λ e. omega arith))
+two? (a ∷ (b ∷ (c ∷ x))) = yes (not_two (λ e. omega arith))
 
 unfoldable pub paired? : (t : Term) → Dec (Paired t)
-paired? t = keys? t (λ m. Two (labels m t)) (λ m. two? (labels m t)) (λ m e. rw e (not-two (λ z. omega arith)))
+paired? t = keys? t (λ m. Two (labels m t)) (λ m. two? (labels m t)) (λ m e. rw e (not_two (λ z. omega arith)))
 
 unfoldable pub apart? : (m : ℕ) (t : Term) → Dec (Apart m t)
 apart? m nil = no (λ b. b)
@@ -112,9 +112,9 @@ or n (no a) r = n
 unfoldable pub verdict : Term → ℕ
 verdict t = or 1 (waits? t) (or 2 (chosen? t) (or 3 (twice? t) (or 4 (paired? t) (or 5 (split? t) (or 6 (hidden? t) (or 7 (ordered? t) 0))))))
 
-pub verdict-right : (t : Term) → Verdict t (verdict t)
+pub verdict_right : (t : Term) → Verdict t (verdict t)
 unfolding verdict
-verdict-right t = pick (waits? t) (chosen? t) (twice? t) (paired? t) (split? t) (hidden? t) (ordered? t)
+verdict_right t = pick (waits? t) (chosen? t) (twice? t) (paired? t) (split? t) (hidden? t) (ordered? t)
   where
     pick : (a : Dec (Waits t)) (b : Dec (Chosen t)) (c : Dec (Twice t)) (d : Dec (Paired t)) (e : Dec (Split t)) (f : Dec (Hidden t)) (g : Dec (Ordered t))
         → Verdict t (or 1 a (or 2 b (or 3 c (or 4 d (or 5 e (or 6 f (or 7 g 0)))))))
@@ -136,13 +136,13 @@ or_no n (yes a) r x = absurd (x a)
 or_no n (no a) r x = refl
 
 -- and there is no other
-pub verdict-once : {t : Term} {v : ℕ} → Verdict t v → verdict t ≡ v
+pub verdict_once : {t : Term} {v : ℕ} → Verdict t v → verdict t ≡ v
 unfolding verdict
-verdict-once {t} (sound s) = or_yes 1 (waits? t) _ s.waits ∙ or_yes 2 (chosen? t) _ s.chosen ∙ or_yes 3 (twice? t) _ s.twice ∙ or_yes 4 (paired? t) _ s.paired ∙ or_yes 5 (split? t) _ s.split ∙ or_yes 6 (hidden? t) _ s.hidden ∙ or_yes 7 (ordered? t) 0 s.ordered
-verdict-once {t} (fails₁ a) = or_no 1 (waits? t) _ a
-verdict-once {t} (fails₂ a b) = or_yes 1 (waits? t) _ a ∙ or_no 2 (chosen? t) _ b
-verdict-once {t} (fails₃ a b c) = or_yes 1 (waits? t) _ a ∙ or_yes 2 (chosen? t) _ b ∙ or_no 3 (twice? t) _ c
-verdict-once {t} (fails₄ a b c d) = or_yes 1 (waits? t) _ a ∙ or_yes 2 (chosen? t) _ b ∙ or_yes 3 (twice? t) _ c ∙ or_no 4 (paired? t) _ d
-verdict-once {t} (fails₅ a b c d e) = or_yes 1 (waits? t) _ a ∙ or_yes 2 (chosen? t) _ b ∙ or_yes 3 (twice? t) _ c ∙ or_yes 4 (paired? t) _ d ∙ or_no 5 (split? t) _ e
-verdict-once {t} (fails₆ a b c d e f) = or_yes 1 (waits? t) _ a ∙ or_yes 2 (chosen? t) _ b ∙ or_yes 3 (twice? t) _ c ∙ or_yes 4 (paired? t) _ d ∙ or_yes 5 (split? t) _ e ∙ or_no 6 (hidden? t) _ f
-verdict-once {t} (fails₇ a b c d e f g) = or_yes 1 (waits? t) _ a ∙ or_yes 2 (chosen? t) _ b ∙ or_yes 3 (twice? t) _ c ∙ or_yes 4 (paired? t) _ d ∙ or_yes 5 (split? t) _ e ∙ or_yes 6 (hidden? t) _ f ∙ or_no 7 (ordered? t) 0 g
+verdict_once {t} (sound s) = or_yes 1 (waits? t) _ s.waits ∙ or_yes 2 (chosen? t) _ s.chosen ∙ or_yes 3 (twice? t) _ s.twice ∙ or_yes 4 (paired? t) _ s.paired ∙ or_yes 5 (split? t) _ s.split ∙ or_yes 6 (hidden? t) _ s.hidden ∙ or_yes 7 (ordered? t) 0 s.ordered
+verdict_once {t} (fails₁ a) = or_no 1 (waits? t) _ a
+verdict_once {t} (fails₂ a b) = or_yes 1 (waits? t) _ a ∙ or_no 2 (chosen? t) _ b
+verdict_once {t} (fails₃ a b c) = or_yes 1 (waits? t) _ a ∙ or_yes 2 (chosen? t) _ b ∙ or_no 3 (twice? t) _ c
+verdict_once {t} (fails₄ a b c d) = or_yes 1 (waits? t) _ a ∙ or_yes 2 (chosen? t) _ b ∙ or_yes 3 (twice? t) _ c ∙ or_no 4 (paired? t) _ d
+verdict_once {t} (fails₅ a b c d e) = or_yes 1 (waits? t) _ a ∙ or_yes 2 (chosen? t) _ b ∙ or_yes 3 (twice? t) _ c ∙ or_yes 4 (paired? t) _ d ∙ or_no 5 (split? t) _ e
+verdict_once {t} (fails₆ a b c d e f) = or_yes 1 (waits? t) _ a ∙ or_yes 2 (chosen? t) _ b ∙ or_yes 3 (twice? t) _ c ∙ or_yes 4 (paired? t) _ d ∙ or_yes 5 (split? t) _ e ∙ or_no 6 (hidden? t) _ f
+verdict_once {t} (fails₇ a b c d e f g) = or_yes 1 (waits? t) _ a ∙ or_yes 2 (chosen? t) _ b ∙ or_yes 3 (twice? t) _ c ∙ or_yes 4 (paired? t) _ d ∙ or_yes 5 (split? t) _ e ∙ or_yes 6 (hidden? t) _ f ∙ or_no 7 (ordered? t) 0 g

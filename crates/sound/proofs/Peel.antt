@@ -10,7 +10,7 @@ use lib.ListN.{length}
 use Rattle.ccsk.specs.Numbers.{In}
 use Rattle.ccsk.specs.Without.{without}
 use Rattle.sound.specs.Sound.{Chain, one, more}
-use Rattle.ccsk.proofs.Lists.{in_without, gone, without-shorter}
+use Rattle.ccsk.proofs.Lists.{in_without, gone, without_shorter}
 use Rattle.sound.proofs.Chains.{first}
 
 -- a number of L to which R leads from m, and the rest of L; or none
@@ -92,11 +92,11 @@ module _ (R : ℕ → ℕ → Type 0) (R? : (m n : ℕ) → Dec (R m n)) where
   after m O w f (more {k = x} {n = y} c b) = closed O w x y (after m O w f c) b
 
   -- numbers in a row are in no cycle
-  pub rowed-free : (O : List ℕ) → Rowed O → (m : ℕ) → In m O → ¬ Chain R m m
+  pub rowed_free : (O : List ℕ) → Rowed O → (m : ℕ) → In m O → ¬ Chain R m m
   unfolding Rowed
-  rowed-free [] w m i c = i
-  rowed-free (x ∷ O) w m (inl e) c = w.0 (after x O w.2 w.1 (rw e at c))
-  rowed-free (x ∷ O) w m (inr i) c = rowed-free O w.2 m i c
+  rowed_free [] w m i c = i
+  rowed_free (x ∷ O) w m (inl e) c = w.0 (after x O w.2 w.1 (rw e at c))
+  rowed_free (x ∷ O) w m (inr i) c = rowed_free O w.2 m i c
 
   -- one of S that leads to none of T, if there is one
   unfoldable pub look : (T S : List ℕ) → ((m : ℕ) × In m S × ((n : ℕ) → In n T → ¬ R m n)) ⊎ ((m : ℕ) → In m S → ¬ ((n : ℕ) → In n T → ¬ R m n))
@@ -115,7 +115,7 @@ module _ (R : ℕ → ℕ → Type 0) (R? : (m n : ℕ) → Dec (R m n)) where
   -- taking out, one by one, numbers that lead to none that is left; K holds whatever R relates
   module _ (K : List ℕ) (low : (m n : ℕ) → R m n → In n K) (high : (m n : ℕ) → R m n → In m K) where
     unfoldable pub empty : (O : List ℕ) → Rowed O → ((k : ℕ) → In k K → In k [] ⊎ In k O) → Dec (Acyclic R)
-    empty O w s = yes (λ m c. rowed-free O w m (⊎_elim (λ z. absurd z) (λ z. z) (s m (high m (first c).0 (first c).1))) c)
+    empty O w s = yes (λ m c. rowed_free O w m (⊎_elim (λ z. absurd z) (λ z. z) (s m (high m (first c).0 (first c).1))) c)
 
     unfoldable pub peel : (f : ℕ) (S O : List ℕ) → length S ≤ f → Rowed O → ((k : ℕ) → In k K → In k S ⊎ In k O) → ((k : ℕ) → In k S → ¬ In k O) → Dec (Acyclic R)
     unfolding Rowed
@@ -130,7 +130,7 @@ module _ (R : ℕ → ℕ → Type 0) (R? : (m n : ℕ) → Dec (R m n)) where
         pick : ((m : ℕ) × In m T × ((n : ℕ) → In n T → ¬ R m n)) ⊎ ((m : ℕ) → In m T → ¬ ((n : ℕ) → In n T → ¬ R m n))
             → ((S O : List ℕ) → length S ≤ f → Rowed O → ((k : ℕ) → In k K → In k S ⊎ In k O) → ((k : ℕ) → In k S → ¬ In k O) → Dec (Acyclic R)) → Dec (Acyclic R)
         pick (inr g) r = no (λ o. let p = peak T o x (inl refl) in g p.key p.has p.free)
-        pick (inl p) r = r (without m T) (m ∷ O) (omega (arith, without-shorter m T p.1)) row cover apart
+        pick (inl p) r = r (without m T) (m ∷ O) (omega (arith, without_shorter m T p.1)) row cover apart
           where
             m : ℕ
             m = p.0

@@ -7,7 +7,7 @@ use Rattle.moves.specs.Move.{move}
 use Rattle.findings.specs.declared.Move.{Move}
 use Rattle.findings.specs.declared.Ask.{Ask}
 use Rattle.findings.specs.declared.Seen.{Seen}
-use Rattle.findings.specs.Seen.{Found, move_of, choice_of, mayOf}
+use Rattle.findings.specs.Seen.{Found, move_of, choice_of, may_of}
 
 -- r is what is found of a prefix, if `below` is what is found of its child
 abbrev pub OverPrefix : Ask → ℕ → Node → Label → Key → Seen → Seen → Type 0
@@ -34,7 +34,7 @@ pub record Sides (ask : Ask) (i : ℕ) (n : Node) (t u : Term) (one other : Seen
 
 -- r is its move; r is what is found of it
 abbrev pub MoveOfTwo : Bool → Seen → Seen → Move → Type 0
-MoveOfTwo parallel one other r = (ask : Ask) (i : ℕ) (n : Node) (t u : Term) → Sides ask i n t u one other → move_of r ≡ move (choice_of ask) (mayOf ask) n (two parallel t u)
+MoveOfTwo parallel one other r = (ask : Ask) (i : ℕ) (n : Node) (t u : Term) → Sides ask i n t u one other → move_of r ≡ move (choice_of ask) (may_of ask) n (two parallel t u)
 
 abbrev pub OverTwo : Bool → Seen → Seen → Seen → Type 0
 OverTwo parallel one other r = (ask : Ask) (i : ℕ) (n : Node) (t u : Term) → Sides ask i n t u one other → Found ask i n (two parallel t u) r

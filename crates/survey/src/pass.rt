@@ -1,6 +1,6 @@
 // One pass over a record: it is read, and what is found of it is gathered from the leaves to the root.
 ghost use Rattle.std.specs.Prelude.{◌≡◌, ◌+◌, ◌*◌, ◌≤◌, ◌<◌, length};
-ghost use Rattle.format.specs.Limits.{node-limit};
+ghost use Rattle.format.specs.Limits.{node_limit};
 ghost use Rattle.survey.specs.Over.{OverOne};
 ghost use Rattle.survey.specs.Survey.{Surveyed, Looked};
 
@@ -38,7 +38,7 @@ fn at_one(s: &[u8], at: usize, kind: usize, n: usize, ask: Ask, below: Seen) -> 
 
 // What a pass over the term at `at` comes to: at most `deep` levels and `left` nodes may come, so its root is node NODES - left.
 fn survey(s: &[u8], at: usize, deep: usize, left: usize, ask: Ask) -> Outcome
-    requires { (left ≤ node-limit) × (at + 4 * left ≤ 4 * node-limit) }
+    requires { (left ≤ node_limit) × (at + 4 * left ≤ 4 * node_limit) }
     ensures { Surveyed s.now at deep left ask result }
 {
     match node_due(s, at, deep, left) {

@@ -3,7 +3,7 @@ use Rattle.std.specs.Prelude.{◌≡◌, ◌⊎◌, List, ℕ, zero, suc, ◌<�
 use Rattle.std.proofs.Math.Decide.{ℕ_discrete}
 use Rattle.ccsk.specs.Numbers.{in?}
 use Rattle.ccsk.specs.Term.{Key}
-use Rattle.causes.specs.Links.{one-if}
+use Rattle.causes.specs.Links.{one_if}
 
 -- a row leads from the key m down to k
 abbrev pub Leads : List ℕ → List ℕ → Key → Key → Type 0
@@ -12,18 +12,18 @@ Leads us ls m k = (i : ℕ) × (0 < m) × (get_or us i 0 ≡ m) × (get_or ls i 
 -- how many of the first i rows lead from m to a key that is not out
 unfoldable pub owing : List ℕ → List ℕ → Key → List Key → ℕ → ℕ
 owing us ls m out zero = 0
-owing us ls m out (suc i) = one-if (ℕ_discrete m (get_or us i 0)) (in? (get_or ls i 0) out) (owing us ls m out i)
+owing us ls m out (suc i) = one_if (ℕ_discrete m (get_or us i 0)) (in? (get_or ls i 0) out) (owing us ls m out i)
 
 -- one more, if both hold
-abbrev pub one-both : {A B : Type 0} → Dec A → Dec B → ℕ → ℕ
-one-both (yes a) (yes b) n = suc n
-one-both (yes a) (no b) n = n
-one-both (no a) d n = n
+abbrev pub one_both : {A B : Type 0} → Dec A → Dec B → ℕ → ℕ
+one_both (yes a) (yes b) n = suc n
+one_both (yes a) (no b) n = n
+one_both (no a) d n = n
 
 -- how many of the first i rows lead from m to k
 unfoldable pub between : List ℕ → List ℕ → Key → Key → ℕ → ℕ
 between us ls m k zero = 0
-between us ls m k (suc i) = one-both (ℕ_discrete m (get_or us i 0)) (ℕ_discrete k (get_or ls i 0)) (between us ls m k i)
+between us ls m k (suc i) = one_both (ℕ_discrete m (get_or us i 0)) (ℕ_discrete k (get_or ls i 0)) (between us ls m k i)
 
 -- k is one of the first n keys of a list
 abbrev pub Among : ℕ → List Key → Key → Type 0

@@ -2,7 +2,7 @@
 use Rattle.std.specs.Prelude.{◌≡◌, List, [], true, false, ℕ, suc, ◌+◌, ◌≤◌, ◌<◌, length, get_or, set}
 use Rattle.ccsk.specs.Term.{Key}
 use Rattle.sound.specs.Sound.{Chain}
-use Rattle.format.specs.Limits.{node-limit}
+use Rattle.format.specs.Limits.{node_limit}
 use Rattle.keyset.specs.Set.{member}
 use Rattle.rank.specs.Rank.{rank, Ranked}
 use Rattle.threads.specs.Rows.{Leads, owing, Last}
@@ -15,11 +15,11 @@ Held marks k = member marks k ≡ true
 pub record Sortable (marks : List ℕ) (n links : ℕ) (us ls : List ℕ) : Type 0 where
   pub whole : length marks ≡ 8192
   pub count : n ≡ rank marks 65536
-  pub few : n ≤ node-limit
+  pub few : n ≤ node_limit
   pub zero : member marks 0 ≡ false
-  pub upper : length us ≡ suc node-limit
-  pub lower : length ls ≡ suc node-limit
-  pub last : links ≤ node-limit
+  pub upper : length us ≡ suc node_limit
+  pub lower : length ls ≡ suc node_limit
+  pub last : links ≤ node_limit
   pub root : get_or us 0 0 ≡ 0
   pub rest : (i : ℕ) → links < i → get_or us i 0 ≡ 0
   pub closed : (k m : Key) → Held marks k → Leads us ls k m → Held marks m
@@ -52,8 +52,8 @@ pub record Ready (marks base us os hs cs : List ℕ) : Type 0 where
   pub older : length os ≡ length us
   pub heads : rank marks 65536 ≤ length hs
   pub counters : rank marks 65536 ≤ length cs
-  pub no-head : (r : ℕ) → get_or hs r 0 ≡ 0
-  pub no-count : (r : ℕ) → get_or cs r 0 ≡ 0
+  pub no_head : (r : ℕ) → get_or hs r 0 ≡ 0
+  pub no_count : (r : ℕ) → get_or cs r 0 ≡ 0
 
 -- The rows below `end` are threaded.
 pub record Threaded (marks us ls : List ℕ) (end : ℕ) (ups os hs cs : List ℕ) : Type 0 where
@@ -63,5 +63,5 @@ pub record Threaded (marks us ls : List ℕ) (end : ℕ) (ups os hs cs : List �
   pub rest : (i : ℕ) → end ≤ i → get_or ups i 0 ≡ get_or us i 0
   pub counted : (k : Key) → Held marks k → get_or cs (rank marks k) 0 ≡ owing us ls k [] end
   pub small : (r : ℕ) → get_or cs r 0 ≤ end
-  pub long-ups : length ups ≡ length us
-  pub long-olds : length os ≡ length us
+  pub long_ups : length ups ≡ length us
+  pub long_olds : length os ≡ length us

@@ -12,24 +12,24 @@ use Rattle.ccsk.specs.Numbers.{In, Lists}
 use Rattle.ccsk.specs.Term.{Term, Key, Node, nil, pre, cho, par, res, keys, done, labels, tick, size}
 use Rattle.ccsk.specs.Step.{Undoable}
 use Rattle.ccsk.proofs.Lists.{in_left, in_right}
-use Rattle.ccsk.proofs.Keys.{in-has, keys-few}
-use Rattle.format.specs.Limits.{node-limit, depth-limit}
+use Rattle.ccsk.proofs.Keys.{in_has, keys_few}
+use Rattle.format.specs.Limits.{node_limit, depth_limit}
 use Rattle.format.specs.Read.{Reads}
 use Rattle.format.specs.Encode.{InRange, Bytes}
 use Rattle.operations.specs.Ask.{UndoListing, UndoListing.unreadable as refused-row, UndoListing.done as listed-row}
-use Rattle.operations.proofs.Kept.{range-key}
+use Rattle.operations.proofs.Kept.{range_key}
 use Rattle.operations.proofs.Readable.{read_fits}
 use Rattle.reader.specs.Walk.{Walks}
-use Rattle.reader.proofs.Whole.{refuses-stopped, refuses-trailing, reads_whole}
+use Rattle.reader.proofs.Whole.{refuses_stopped, refuses_trailing, reads_whole}
 use Rattle.moves.specs.Move.{holds}
 use Rattle.rank.specs.Rank.{one_more}
-use Rattle.lasts.specs.Last.{Last, Scopes, enclosed, open-scopes, over-prefix, over-choice, lasts, all-lasts, only, Ready}
-use Rattle.lasts.proofs.Ready.{undoable-iff-ready}
+use Rattle.lasts.specs.Last.{Last, Scopes, enclosed, open_scopes, last_over_prefix, last_over_choice, lasts, all_lasts, only, Ready}
+use Rattle.lasts.proofs.Ready.{undoable_iff_ready}
 use Rattle.gather.specs.declared.Outcome.{Outcome}
 use Rattle.gather.specs.declared.Outcome.TheVariants as found
 use Rattle.gather.specs.Gather.{Lent, Noted, Gathers}
-use Rattle.gather.proofs.Notes.{lasts-few}
-use Rattle.gather.proofs.Gathers.{gathers-refused, gathers-part}
+use Rattle.gather.proofs.Notes.{lasts_few}
+use Rattle.gather.proofs.Gathers.{gathers_refused, gathers_part}
 use Rattle.settle.specs.Group.{Small, times}
 use Rattle.undos.specs.Rows.{Positive, AllAmong, Lines, Lines.lines}
 
@@ -43,78 +43,78 @@ times-append k (a ∷ x) y = rw (times-append k x y) (pull (eqb k a))
     pull true = omega arith
     pull false = refl
 
-times-labels : (k : Key) → 0 < k → (t : Term) → times k (keys t) ≡ length (labels k t)
+times_labels : (k : Key) → 0 < k → (t : Term) → times k (keys t) ≡ length (labels k t)
 unfolding times keys labels
-times-labels k h nil = refl
-times-labels k h (pre a zero t) = rw (ne_eqb k 0 (λ e. omega arith)) (times-labels k h t)
-times-labels k h (pre a (suc m) t) = rw (times-labels k h t) (one (eqb k (suc m)))
+times_labels k h nil = refl
+times_labels k h (pre a zero t) = rw (ne_eqb k 0 (λ e. omega arith)) (times_labels k h t)
+times_labels k h (pre a (suc m) t) = rw (times_labels k h t) (one (eqb k (suc m)))
   where
     one : (b : Bool) → one_more b (length (labels k t)) ≡ length (tick b a (labels k t))
     one true = refl
     one false = refl
-times-labels k h (cho t u) = rw (times-append k (keys t) (keys u), times-labels k h t, times-labels k h u, length-append (labels k t) (labels k u))
-times-labels k h (par t u) = rw (times-append k (keys t) (keys u), times-labels k h t, times-labels k h u, length-append (labels k t) (labels k u))
-times-labels k h (res a t) = times-labels k h t
+times_labels k h (cho t u) = rw (times-append k (keys t) (keys u), times_labels k h t, times_labels k h u, length-append (labels k t) (labels k u))
+times_labels k h (par t u) = rw (times-append k (keys t) (keys u), times_labels k h t, times_labels k h u, length-append (labels k t) (labels k u))
+times_labels k h (res a t) = times_labels k h t
 
 -- the key of every last is a key of the term
-among-more : (x y : List Key) (l : List Last) → ((k : Key) → In k x → In k y) → AllAmong x l → AllAmong y l
-among-more x y [] f a = tt
-among-more x y (e ∷ l) f a = (f e.key a.0, among-more x y l f a.1)
+among_more : (x y : List Key) (l : List Last) → ((k : Key) → In k x → In k y) → AllAmong x l → AllAmong y l
+among_more x y [] f a = tt
+among_more x y (e ∷ l) f a = (f e.key a.0, among_more x y l f a.1)
 
-among-both : (x : List Key) (l m : List Last) → AllAmong x l → AllAmong x m → AllAmong x (l ++ m)
-among-both x [] m a b = b
-among-both x (e ∷ l) m a b = (a.0, among-both x l m a.1 b)
+among_both : (x : List Key) (l m : List Last) → AllAmong x l → AllAmong x m → AllAmong x (l ++ m)
+among_both x [] m a b = b
+among_both x (e ∷ l) m a b = (a.0, among_both x l m a.1 b)
 
-among-prefix : (k : Key) (e : Last) (h : Bool) (x : List Last) (y : List Key) → e.key ≡ k → AllAmong y x → AllAmong (done k y) (over-prefix (eqb k 0) h e x)
-among-prefix zero e h x y q a = tt
-among-prefix (suc k) e true x y q a = rw (ne_eqb (suc k) 0 (λ z. omega arith)) (among-more y (suc k ∷ y) x (λ j i. inr i) a)
-among-prefix (suc k) e false x y q a = rw (ne_eqb (suc k) 0 (λ z. omega arith)) (inl q, tt)
+among_prefix : (k : Key) (e : Last) (h : Bool) (x : List Last) (y : List Key) → e.key ≡ k → AllAmong y x → AllAmong (done k y) (last_over_prefix (eqb k 0) h e x)
+among_prefix zero e h x y q a = tt
+among_prefix (suc k) e true x y q a = rw (ne_eqb (suc k) 0 (λ z. omega arith)) (among_more y (suc k ∷ y) x (λ j i. inr i) a)
+among_prefix (suc k) e false x y q a = rw (ne_eqb (suc k) 0 (λ z. omega arith)) (inl q, tt)
 
-among-choice : (f g : Bool) (x y : List Last) (v w : List Key) → AllAmong v x → AllAmong w y → AllAmong (v ++ w) (over-choice f g x y)
-among-choice true true x y v w a b = tt
-among-choice true false x y v w a b = among-both (v ++ w) x y (among-more v (v ++ w) x (λ k. in_left k v w) a) (among-more w (v ++ w) y (λ k. in_right k v w) b)
-among-choice false g x y v w a b = among-both (v ++ w) x y (among-more v (v ++ w) x (λ k. in_left k v w) a) (among-more w (v ++ w) y (λ k. in_right k v w) b)
+among_choice : (f g : Bool) (x y : List Last) (v w : List Key) → AllAmong v x → AllAmong w y → AllAmong (v ++ w) (last_over_choice f g x y)
+among_choice true true x y v w a b = tt
+among_choice true false x y v w a b = among_both (v ++ w) x y (among_more v (v ++ w) x (λ k. in_left k v w) a) (among_more w (v ++ w) y (λ k. in_right k v w) b)
+among_choice false g x y v w a b = among_both (v ++ w) x y (among_more v (v ++ w) x (λ k. in_left k v w) a) (among_more w (v ++ w) y (λ k. in_right k v w) b)
 
-lasts-among : (n : Node) (s : Scopes) (t : Term) → AllAmong (keys t) (lasts n s t)
+lasts_among : (n : Node) (s : Scopes) (t : Term) → AllAmong (keys t) (lasts n s t)
 unfolding lasts keys
-lasts-among n s nil = tt
-lasts-among n s (pre a k t) = among-prefix k _ (holds t) (lasts (n + 1) s t) (keys t) refl (lasts-among (n + 1) s t)
-lasts-among n s (cho t u) = among-choice (holds t) (holds u) (lasts (n + 1) s t) (lasts (n + 1 + size t) s u) (keys t) (keys u) (lasts-among (n + 1) s t) (lasts-among (n + 1 + size t) s u)
-lasts-among n s (par t u) = among-choice false false (lasts (n + 1) s t) (lasts (n + 1 + size t) s u) (keys t) (keys u) (lasts-among (n + 1) s t) (lasts-among (n + 1 + size t) s u)
-lasts-among n s (res a t) = lasts-among (n + 1) (enclosed a n s) t
+lasts_among n s nil = tt
+lasts_among n s (pre a k t) = among_prefix k _ (holds t) (lasts (n + 1) s t) (keys t) refl (lasts_among (n + 1) s t)
+lasts_among n s (cho t u) = among_choice (holds t) (holds u) (lasts (n + 1) s t) (lasts (n + 1 + size t) s u) (keys t) (keys u) (lasts_among (n + 1) s t) (lasts_among (n + 1 + size t) s u)
+lasts_among n s (par t u) = among_choice false false (lasts (n + 1) s t) (lasts (n + 1 + size t) s u) (keys t) (keys u) (lasts_among (n + 1) s t) (lasts_among (n + 1 + size t) s u)
+lasts_among n s (res a t) = lasts_among (n + 1) (enclosed a n s) t
 
 -- the keys that are ready are those that can be undone
-undoables-listed : (t : Term) (l : List Key) → InRange t → Lists (λ k. Ready (times k (keys t)) (only k (all-lasts t))) l → Lists (Undoable t) l
-undoables-listed t l r f = (f.0, λ k. (to k, back k))
+undoables_listed : (t : Term) (l : List Key) → InRange t → Lists (λ k. Ready (times k (keys t)) (only k (all_lasts t))) l → Lists (Undoable t) l
+undoables_listed t l r f = (f.0, λ k. (to k, back k))
   where
     to : (k : Key) → In k l → (0 < k) × Undoable t k
-    to k i = let h = (f.1 k).0 i in (h.0, (undoable-iff-ready k t h.0 r).1 (rw (times-labels k h.0 t) at h.1))
+    to k i = let h = (f.1 k).0 i in (h.0, (undoable_iff_ready k t h.0 r).1 (rw (times_labels k h.0 t) at h.1))
 
     back : (k : Key) → (0 < k) × Undoable t k → In k l
-    back k h = (f.1 k).1 (h.0, rw (times-labels k h.0 t) ((undoable-iff-ready k t h.0 r).0 h.1))
+    back k h = (f.1 k).1 (h.0, rw (times_labels k h.0 t) ((undoable_iff_ready k t h.0 r).0 h.1))
 
-lines-undoable : (s : List ℕ) (t : Term) (row row' : List ℕ) (r n : ℕ) → Reads s t → InRange t → Lines (keys t) (all-lasts t) row r n row' → UndoListing s row r n row'
-lines-undoable s t row row' r n p i (lines {l = l} f g) = listed-row p (undoables-listed t l i f) g
+lines_undoable : (s : List ℕ) (t : Term) (row row' : List ℕ) (r n : ℕ) → Reads s t → InRange t → Lines (keys t) (all_lasts t) row r n row' → UndoListing s row r n row'
+lines_undoable s t row row' r n p i (lines {l = l} f g) = listed-row p (undoables_listed t l i f) g
 
 -- what the pass over the whole record leaves
-module _ (s : List ℕ) (bytes : Bytes s) (b b' : Lent) (W : Type 0) (r : Outcome) (w : Gathers s 0 depth-limit node-limit 0 0 b r b' W) (row : List ℕ) where
-  pub listing-refused : (c : ℕ) → r ≡ found.Refused c → UndoListing s row c 0 row
-  listing-refused c q = refused-row (refuses-stopped s c (gathers-refused s 0 depth-limit node-limit 0 0 b b' W r w c q))
+module _ (s : List ℕ) (bytes : Bytes s) (b b' : Lent) (W : Type 0) (r : Outcome) (w : Gathers s 0 depth_limit node_limit 0 0 b r b' W) (row : List ℕ) where
+  pub listing_refused : (c : ℕ) → r ≡ found.Refused c → UndoListing s row c 0 row
+  listing_refused c q = refused-row (refuses_stopped s c (gathers_refused s 0 depth_limit node_limit 0 0 b b' W r w c q))
 
   module _ (next c k l : ℕ) (q : r ≡ found.Part next c k l) where
-    part : (t : Term) × Walks s 0 depth-limit node-limit t next c × Noted 0 t 0 0 b k l b' × W
-    part = gathers-part s 0 depth-limit node-limit 0 0 b b' W r w next c k l q
+    part : (t : Term) × Walks s 0 depth_limit node_limit t next c × Noted 0 t 0 0 b k l b' × W
+    part = gathers_part s 0 depth_limit node_limit 0 0 b b' W r w next c k l q
 
     pub all_whole : W
     all_whole = part.3
 
-    pub listing-trailing : next < length s → UndoListing s row 1 0 row
-    listing-trailing h = refused-row (refuses-trailing s part.0 next c part.1 h)
+    pub listing_trailing : next < length s → UndoListing s row 1 0 row
+    listing_trailing h = refused-row (refuses_trailing s part.0 next c part.1 h)
 
-    pub counts-within : (k ≤ node-limit) × (l ≤ node-limit)
-    counts-within = let p = part in omega (arith, p.1.nodes, p.2.key-count, p.2.last-count, keys-few p.0, lasts-few 0 b.scopes p.0)
+    pub counts_within : (k ≤ node_limit) × (l ≤ node_limit)
+    counts_within = let p = part in omega (arith, p.1.nodes, p.2.key-count, p.2.last-count, keys_few p.0, lasts_few 0 b.scopes p.0)
 
-    module _ (open_at : b.scopes ≡ open-scopes) (h : length s ≤ next) where
+    module _ (open_at : b.scopes ≡ open_scopes) (h : length s ≤ next) where
       t : Term
       t = part.0
 
@@ -122,25 +122,25 @@ module _ (s : List ℕ) (bytes : Bytes s) (b b' : Lent) (W : Type 0) (r : Outcom
       unfolding t
       readable = reads_whole s t next c part.1 h
 
-      in-range : InRange t
-      in-range = (read_fits s bytes readable).range
+      in_range : InRange t
+      in_range = (read_fits s bytes readable).range
 
-      all-keys : take k b'.all ≡ keys t
+      all_keys : take k b'.all ≡ keys t
       unfolding t
-      all-keys = part.2.noted-keys
+      all_keys = part.2.noted-keys
 
-      all-last : take l b'.rows ≡ all-lasts t
+      all_last : take l b'.rows ≡ all_lasts t
       unfolding t
-      all-last = part.2.noted-lasts ∙ ap (λ (x : Scopes). lasts 0 x part.0) open_at
+      all_last = part.2.noted-lasts ∙ ap (λ (x : Scopes). lasts 0 x part.0) open_at
 
-      pub keys-small : Small (take k b'.all)
-      keys-small = rw all-keys (λ m i. omega (arith, range-key m t in-range (in-has m t i).1))
+      pub keys_small : Small (take k b'.all)
+      keys_small = rw all_keys (λ m i. omega (arith, range_key m t in_range (in_has m t i).1))
 
-      pub keys-positive : Positive (take k b'.all)
-      keys-positive = rw all-keys (λ m i. (in-has m t i).0)
+      pub keys_positive : Positive (take k b'.all)
+      keys_positive = rw all_keys (λ m i. (in_has m t i).0)
 
-      pub keys-among : AllAmong (take k b'.all) (take l b'.rows)
-      keys-among = rw (all-keys, all-last) (lasts-among 0 open-scopes t)
+      pub keys_among : AllAmong (take k b'.all) (take l b'.rows)
+      keys_among = rw (all_keys, all_last) (lasts_among 0 open_scopes t)
 
-      pub listing-done : (e n : ℕ) (row' : List ℕ) → Lines (take k b'.all) (take l b'.rows) row e n row' → UndoListing s row e n row'
-      listing-done e n row' x = lines-undoable s t row row' e n readable in-range (rw (all-keys, all-last) at x)
+      pub listing_done : (e n : ℕ) (row' : List ℕ) → Lines (take k b'.all) (take l b'.rows) row e n row' → UndoListing s row e n row'
+      listing_done e n row' x = lines_undoable s t row row' e n readable in_range (rw (all_keys, all_last) at x)

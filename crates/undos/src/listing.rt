@@ -1,6 +1,6 @@
 // The undo listing (01, Operations): the keys whose undo is allowed, ascending, into a lent row.
 ghost use Rattle.std.specs.Prelude.{◌≡◌, List, ◌++◌, ℕ, ◌+◌, ◌≤◌, ◌<◌, length, get_or, take, drop};
-ghost use Rattle.format.specs.Limits.{node-limit};
+ghost use Rattle.format.specs.Limits.{node_limit};
 ghost use Rattle.operations.specs.Ask.{UndoListing};
 ghost use Rattle.settle.specs.Group.{Small};
 ghost use Rattle.shared.specs.Number.{refusal, value};
@@ -17,7 +17,7 @@ use shared::{NAMES, NO_RECORD, Number, SHORT_ROW};
 
 // How many of the first n ranks are ready.
 fn count_ready(state: &[u8; NODES], n: usize) -> usize
-    requires { (length state.now ≡ node-limit) × (n ≤ node-limit) }
+    requires { (length state.now ≡ node_limit) × (n ≤ node_limit) }
     ensures { (slots : List ℕ) → result ≡ length (listed state.now slots n) }
 {
     let mut r: usize = 0;
@@ -31,7 +31,7 @@ fn count_ready(state: &[u8; NODES], n: usize) -> usize
 
 // One if rank r is ready.
 fn ready_at(state: &[u8; NODES], r: usize) -> usize
-    requires { (length state.now ≡ node-limit) × (r < node-limit) }
+    requires { (length state.now ≡ node_limit) × (r < node_limit) }
     ensures { ((slots : List ℕ) → length (listed state.now slots r) + result ≡ length (listed state.now slots (r + 1))) × (result ≤ 1) }
 {
     if state[r] == READY {
@@ -42,7 +42,7 @@ fn ready_at(state: &[u8; NODES], r: usize) -> usize
 
 // Writes the key of rank r at place m of the row, if it is ready, and answers the next place.
 fn put(state: &[u8; NODES], slot: &[u16; NODES], r: usize, row: &mut [u16], m: usize) -> usize
-    requires state_len { (length state.now ≡ node-limit) × (length slot.now ≡ node-limit) × (r < node-limit) }
+    requires state_len { (length state.now ≡ node_limit) × (length slot.now ≡ node_limit) × (r < node_limit) }
     requires m_in_bounds { (get_or state.now r 0 ≡ 5 → m < length row.old) × (m < 65536) }
     ensures { Put state.now slot.now r row.old m result row.new }
 {
@@ -55,7 +55,7 @@ fn put(state: &[u8; NODES], slot: &[u16; NODES], r: usize, row: &mut [u16], m: u
 
 // Writes the keys of the first n ranks that are ready to the front of the row, which is long enough.
 fn write_ready(state: &[u8; NODES], slot: &[u16; NODES], n: usize, row: &mut [u16])
-    requires state_len { (length state.now ≡ node-limit) × (length slot.now ≡ node-limit) × (n ≤ node-limit) }
+    requires state_len { (length state.now ≡ node_limit) × (length slot.now ≡ node_limit) × (n ≤ node_limit) }
     requires n_in_bounds { length (listed state.now slot.now n) ≤ length row.old }
     ensures { row.new ≡ listed state.now slot.now n ++ drop (length (listed state.now slot.now n)) row.old }
 {
@@ -78,8 +78,8 @@ fn list(
     n: usize,
     row: &mut [u16],
 ) -> Number
-    requires all_len { (length all.old ≡ node-limit) × (m ≤ node-limit) × Small (take m all.old) × Positive (take m all.old) }
-    requires key_len { (length key.now ≡ node-limit) × (length action.now ≡ node-limit) × (length scope.now ≡ node-limit) × (n ≤ node-limit) × AllAmong (take m all.old) (take n (rows key.now action.now scope.now)) }
+    requires all_len { (length all.old ≡ node_limit) × (m ≤ node_limit) × Small (take m all.old) × Positive (take m all.old) }
+    requires key_len { (length key.now ≡ node_limit) × (length action.now ≡ node_limit) × (length scope.now ≡ node_limit) × (n ≤ node_limit) × AllAmong (take m all.old) (take n (rows key.now action.now scope.now)) }
     ensures { Lines (take m all.old) (take n (rows key.now action.now scope.now)) row.old (refusal result) (value result) row.new }
 {
     let mut marks = [0u8; BYTES];

@@ -16,8 +16,8 @@ module _ (ks acs es ss first₀ second₀ first second : List ℕ) (b : Blank ks
   indexed e = subst (Index ks first second) e i
 
   -- the causes may be looked for
-  pub causes-asked : r ≡ true → EachPlaced (length acs) first second × ((length es ≡ length acs) × (length ss ≡ length acs))
-  causes-asked e = (rw b.actions (each_placed ks first second (indexed e)), (b.ends ∙ sym b.actions, b.scopes ∙ sym b.actions))
+  pub causes_asked : r ≡ true → EachPlaced (length acs) first second × ((length es ≡ length acs) × (length ss ≡ length acs))
+  causes_asked e = (rw b.actions (each_placed ks first second (indexed e)), (b.ends ∙ sym b.actions, b.scopes ∙ sym b.actions))
 
   pub all_noted : r ≡ true → (c : ℕ) → CauseBelow (length first) acs es ss first second c → Pairing ks acs es ss first second c
   all_noted e c g = inr (indexed e, g)

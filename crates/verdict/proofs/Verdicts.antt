@@ -11,17 +11,17 @@ use lib.ListN.{length}
 use Rattle.ccsk.specs.Term.{Term}
 use Rattle.causes.specs.Entry.{Entry, all}
 use Rattle.causes.specs.Tests as tests
-use Rattle.causes.specs.Tests.{EachKey, AtMostTwo, Complements, Beside, Enclosed, Tested, none-fails, third-fails, fourth-fails, fifth-fails, sixth-fails, seventh-fails}
-use Rattle.causes.proofs.Renaming.{Blind, two-blind, complements-blind, beside-blind, enclosed-blind, each-renamed, acyclic-renamed, all_known}
+use Rattle.causes.specs.Tests.{EachKey, AtMostTwo, Complements, Beside, Enclosed, Tested, none_fails, third_fails, fourth_fails, fifth_fails, sixth_fails, seventh_fails}
+use Rattle.causes.proofs.Renaming.{Blind, two_blind, complements_blind, beside_blind, enclosed_blind, each_renamed, acyclic_renamed, all_known}
 use Rattle.causes.specs.Columns.{Below}
 use Rattle.cycles.specs.Graph as graph
 use Rattle.pairs.specs.Rows.{table, rows_of, Indexed}
 use Rattle.pairs.specs.Cause.{Lowest, CauseBelow}
 use Rattle.pairs.specs.Answer.{Climbed}
-use Rattle.pairs.proofs.Tables.{two-rows, three-rows, lowest-rows}
+use Rattle.pairs.proofs.Tables.{two_rows, three_rows, lowest_rows}
 use Rattle.verdict.specs.Laid.{Laid}
 use Rattle.verdict.specs.Sheet.{Noted}
-use Rattle.verdict.proofs.Order.{acyclic-rows, noted}
+use Rattle.verdict.proofs.Order.{acyclic_rows, noted}
 
 module _ (t : Term) (n : ℕ) (ks acs es ss us first second : List ℕ) (l : Laid t n ks acs es ss us) (e : length first ≡ n) (w : tests.waits t ≡ true) (c : tests.chosen t ≡ true) where
   abbrev rows : List Entry
@@ -32,42 +32,42 @@ module _ (t : Term) (n : ℕ) (ks acs es ss us first second : List ℕ) (l : Lai
 
   -- what does not look at keys holds of the rows exactly if it holds of the term
   each : (P : List Entry → Type 0) → Blind P → EachKey P (all t) ↔ EachKey P rows
-  each P b = rw l.rows (each-renamed P b l.name (all t) l.faithful)
+  each P b = rw l.rows (each_renamed P b l.name (all t) l.faithful)
 
   order : tests.Acyclic (all t) ↔ tests.Acyclic rows
-  order = rw l.rows (acyclic-renamed l.name (all t) l.root l.faithful (all_known t))
+  order = rw l.rows (acyclic_renamed l.name (all t) l.root l.faithful (all_known t))
 
   -- a key stands in three rows
-  pub verdict-3 : (k : ℕ) → 2 < length (rows_of k 0 ks) → Tested t 3
-  verdict-3 k h = third-fails w c (λ f. three-rows ks acs es ss us first second l.square below l.keys k h ((each AtMostTwo two-blind).0 f))
+  pub verdict_3 : (k : ℕ) → 2 < length (rows_of k 0 ks) → Tested t 3
+  verdict_3 k h = third_fails w c (λ f. three_rows ks acs es ss us first second l.square below l.keys k h ((each AtMostTwo two_blind).0 f))
 
   module _ (x : Indexed ks first second) (r : ℕ) (g : CauseBelow (length first) acs es ss first second r) where
     twice : EachKey AtMostTwo (all t)
-    twice = (each AtMostTwo two-blind).1 (two-rows ks acs es ss us first second l.square below l.keys x)
+    twice = (each AtMostTwo two_blind).1 (two_rows ks acs es ss us first second l.square below l.keys x)
 
     low : Lowest (EachKey Complements rows) (EachKey Beside rows) (EachKey Enclosed rows) r
-    low = lowest-rows ks acs es ss us first second l.square below l.keys x r g
+    low = lowest_rows ks acs es ss us first second l.square below l.keys x r g
 
     paired : 4 < r → EachKey Complements (all t)
-    paired h = (each Complements complements-blind).1 (low.holds₄ h)
+    paired h = (each Complements complements_blind).1 (low.holds₄ h)
 
     apart : 5 < r → EachKey Beside (all t)
-    apart h = (each Beside beside-blind).1 (low.holds₅ h)
+    apart h = (each Beside beside_blind).1 (low.holds₅ h)
 
     hidden : 6 < r → EachKey Enclosed (all t)
-    hidden h = (each Enclosed enclosed-blind).1 (low.holds₆ h)
+    hidden h = (each Enclosed enclosed_blind).1 (low.holds₆ h)
 
     -- one of the conditions 4 to 6 fails
-    pub verdict-4-to-6 : r < 7 → Tested t r
-    verdict-4-to-6 h = pick (ℕ_discrete r 4) (ℕ_discrete r 5)
+    pub verdict_4_to_6 : r < 7 → Tested t r
+    verdict_4_to_6 h = pick (ℕ_discrete r 4) (ℕ_discrete r 5)
       where
         pick : Dec (r ≡ 4) → Dec (r ≡ 5) → Tested t r
-        pick (yes q) d = rw q (fourth-fails w c twice (λ f. low.fails₄ q ((each Complements complements-blind).0 f)))
-        pick (no p) (yes q) = rw q (fifth-fails w c twice (paired (omega arith)) (λ f. low.fails₅ q ((each Beside beside-blind).0 f)))
+        pick (yes q) d = rw q (fourth_fails w c twice (λ f. low.fails₄ q ((each Complements complements_blind).0 f)))
+        pick (no p) (yes q) = rw q (fifth_fails w c twice (paired (omega arith)) (λ f. low.fails₅ q ((each Beside beside_blind).0 f)))
         pick (no p) (no q) = six (let a = low.least in omega arith)
           where
             six : r ≡ 6 → Tested t r
-            six q = rw q (sixth-fails w c twice (paired (omega arith)) (apart (omega arith)) (λ f. low.fails₆ q ((each Enclosed enclosed-blind).0 f)))
+            six q = rw q (sixth_fails w c twice (paired (omega arith)) (apart (omega arith)) (λ f. low.fails₆ q ((each Enclosed enclosed_blind).0 f)))
 
     -- what the cycle test asks for
     pub asked : Noted us first second
@@ -75,11 +75,11 @@ module _ (t : Term) (n : ℕ) (ks acs es ss us first second : List ℕ) (l : Lai
 
     module _ (h : 7 ≤ r) (one two : List ℕ) (f : Climbed us first one) (i : Climbed us second two) where
       same : tests.Acyclic (all t) ↔ graph.Acyclic one two
-      same = Iff.trans order (acyclic-rows ks acs es ss us first second one two l.square below x f i)
+      same = Iff.trans order (acyclic_rows ks acs es ss us first second one two l.square below x f i)
 
       -- there is a cycle, or none
-      pub verdict-7 : ¬ graph.Acyclic one two → Tested t 7
-      verdict-7 a = seventh-fails w c twice (paired (omega arith)) (apart (omega arith)) (hidden (omega arith)) (λ z. a (same.0 z))
+      pub verdict_7 : ¬ graph.Acyclic one two → Tested t 7
+      verdict_7 a = seventh_fails w c twice (paired (omega arith)) (apart (omega arith)) (hidden (omega arith)) (λ z. a (same.0 z))
 
-      pub verdict-0 : graph.Acyclic one two → Tested t 0
-      verdict-0 a = none-fails w c twice (paired (omega arith)) (apart (omega arith)) (hidden (omega arith)) (same.1 a)
+      pub verdict_0 : graph.Acyclic one two → Tested t 0
+      verdict_0 a = none_fails w c twice (paired (omega arith)) (apart (omega arith)) (hidden (omega arith)) (same.1 a)

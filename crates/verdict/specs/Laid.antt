@@ -2,7 +2,7 @@
 use Rattle.std.specs.Prelude.{◌≡◌, List, ℕ, ◌≤◌, ◌<◌}
 use Rattle.ccsk.specs.Term.{Term}
 use Rattle.causes.specs.Entry.{all}
-use Rattle.causes.specs.Links.{key-column, renamed}
+use Rattle.causes.specs.Links.{key_column, renamed}
 use Rattle.causes.specs.Columns.{Below, Faithful, Positive, Square}
 use Rattle.pairs.specs.Rows.{table}
 
@@ -10,11 +10,11 @@ use Rattle.pairs.specs.Rows.{table}
 pub record Laid (t : Term) (n : ℕ) (ks acs es ss us : List ℕ) : Type 0 where
   pub name : ℕ → ℕ
   pub root : name 0 ≡ 0
-  pub faithful : Faithful name (key-column (all t))
+  pub faithful : Faithful name (key_column (all t))
   pub square : Square ks acs es ss us
   pub rows : table 0 ks acs es ss us ≡ renamed name (all t)
   pub keys : Positive ks
   pub keys_below : Below n ks
-  pub ups-below : Below n us
+  pub ups_below : Below n us
   pub some : 0 < n
   pub few : n ≤ 32767

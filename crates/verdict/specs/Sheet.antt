@@ -14,8 +14,8 @@ pub record Blank (ks acs es ss first second : List ℕ) : Type 0 where
   pub ends : length es ≡ length ks
   pub scopes : length ss ≡ length ks
   pub alike : length second ≡ length first
-  pub first-zero : Zero first
-  pub second-zero : Zero second
+  pub first_zero : Zero first
+  pub second_zero : Zero second
 
 -- a key stands in three rows, or all rows are noted and c is the lowest of the conditions 4 to 6 that fails, 7 if none does
 abbrev pub Pairing : List ℕ → List ℕ → List ℕ → List ℕ → List ℕ → List ℕ → ℕ → Type 0
@@ -27,11 +27,11 @@ pub record Noted (us first second : List ℕ) : Type 0 where
   pub alike : length second ≡ length first
   pub some : 0 < length first
   pub few : length first ≤ 32767
-  pub ups-below : Below (length first) us
-  pub first-inside : Below (length us + 1) first
-  pub second-inside : Below (length us + 1) second
-  pub first-root : get_or first 0 0 ≡ 0
-  pub second-root : get_or second 0 0 ≡ 0
+  pub ups_below : Below (length first) us
+  pub first_inside : Below (length us + 1) first
+  pub second_inside : Below (length us + 1) second
+  pub first_root : get_or first 0 0 ≡ 0
+  pub second_root : get_or second 0 0 ≡ 0
 
 -- each noted row has become the key right above it, and the answer tells whether these have no cycle
 pub record Ordering (us first second one two : List ℕ) (r : Bool) : Type 0 where

@@ -15,19 +15,19 @@ of_node s n = take 1 (drop n (nodes (decode s)))
 abbrev done : List ℕ
 done = 1 ∷ (1 ∷ (1 ∷ (2 ∷ (0 ∷ []))))
 
-first-node : of_node done 0 ≡ shown 1 (1 ∷ (1 ∷ (2 ∷ []))) 1 ∷ []
+first_node : of_node done 0 ≡ shown 1 (1 ∷ (1 ∷ (2 ∷ []))) 1 ∷ []
 unfolding decode finish read node kind_of preorder
-first-node = refl
+first_node = refl
 
-second-node : of_node done 1 ≡ shown 0 [] 2 ∷ []
+second_node : of_node done 1 ≡ shown 0 [] 2 ∷ []
 unfolding decode finish read node kind_of preorder
-second-node = refl
+second_node = refl
 
-past-the-last : of_node done 2 ≡ []
+past_the_last : of_node done 2 ≡ []
 unfolding decode finish read node kind_of preorder
-past-the-last = refl
+past_the_last = refl
 
 -- a byte after the whole term: the bytes are refused, and no node is shown
-refused-bytes : of_node (0 ∷ (0 ∷ [])) 0 ≡ []
+refused_bytes : of_node (0 ∷ (0 ∷ [])) 0 ≡ []
 unfolding decode finish read node kind_of
-refused-bytes = refl
+refused_bytes = refl

@@ -71,14 +71,14 @@ module _ (κ : Lft) where
           feq_i ! (List Val) (walking s u ∷ []) (walking s u ∷ []) refl $ fjoin ! $
           fpack ! (Valss (rows D.parts)) (within (shape D) (intos D.parts (s, (c, tt))) (walking s u ∷ [])) (lent s ∷ [], (u ∷ [], tt)) $ done !
 
-      pub made-typed : Is (ShrSlice (named 0) κ u8) s (lent s ∷ []) → Is C.the_row c (u ∷ []) → Holds (has_ty (T'.mir (named 0)) (walking s u)) × WT (walking s u)
-      made-typed p r = ((LL.lawful D L 𝓛).typed made (walking s u ∷ []) ((lent s ∷ [], (u ∷ [], tt)), (refl, (p, (r, tt))))).0
+      pub made_typed : Is (ShrSlice (named 0) κ u8) s (lent s ∷ []) → Is C.the_row c (u ∷ []) → Holds (has_ty (T'.mir (named 0)) (walking s u)) × WT (walking s u)
+      made_typed p r = ((LL.lawful D L 𝓛).typed made (walking s u ∷ []) ((lent s ∷ [], (u ∷ [], tt)), (refl, (p, (r, tt))))).0
 
-    pub record-typed : (s : Bor (List ℕ)) → Is (ShrSlice (named 0) κ u8) s (lent s ∷ []) → WT (lent s)
-    record-typed s p = ((shr_slice_Lawful 𝓛 (named 0) κ u8).typed s (lent s ∷ []) p).0.1
+    pub record_typed : (s : Bor (List ℕ)) → Is (ShrSlice (named 0) κ u8) s (lent s ∷ []) → WT (lent s)
+    record_typed s p = ((shr_slice_Lawful 𝓛 (named 0) κ u8).typed s (lent s ∷ []) p).0.1
 
-    pub cursor-typed : (c : Cursor) (u : Val) → Is C.the_row c (u ∷ []) → Holds (has_ty C'.mir u) × WT u
-    cursor-typed c u p = ((LL.lawful C.the_type C'.the_laws 𝓛).typed c (u ∷ []) p).0
+    pub cursor_typed : (c : Cursor) (u : Val) → Is C.the_row c (u ∷ []) → Holds (has_ty C'.mir u) × WT u
+    cursor_typed c u p = ((LL.lawful C.the_type C'.the_laws 𝓛).typed c (u ∷ []) p).0
 
   module _ (d : Walker) where
     abbrev values : Values D.parts
@@ -105,5 +105,5 @@ module _ (κ : Lft) where
       pub record_is : Is (ShrSlice (named 0) κ u8) d.«record» (lent d.«record» ∷ [])
       record_is = (LL.owed D L d (mach ∷ []) p).0
 
-      pub cursor-is : Is C.the_row d.cursor (standing d.cursor ∷ [])
-      cursor-is = (LL.owed D L d (mach ∷ []) p).1.0
+      pub cursor_is : Is C.the_row d.cursor (standing d.cursor ∷ [])
+      cursor_is = (LL.owed D L d (mach ∷ []) p).1.0

@@ -29,8 +29,8 @@ module _ (s : List ℕ) (c r r' : Cursor) (k : ℕ) (G : GoesOn s c k r) (g : Go
   last t n C h (yes m) = let D = G.ends t n C m in subst (CursorAt s t (size t)) (sym (g.stays t (size t) D (omega arith))) D
   last t n C h (no m) = let e : n + (k + 1) ≡ size t = omega (arith, m) in subst (λ (i : ℕ). CursorAt s t i r') e (further t n C (omega (arith, e)))
 
-  pub goes-one-more : GoesOn s c (k + 1) r'
-  goes-one-more = record {
+  pub goes_one_more : GoesOn s c (k + 1) r'
+  goes_one_more = record {
     on = further;
     ends = λ t n C h. last t n C h (dec_le (size t) (n + k));
     refused = λ j b. g.refused j (subst (Bears j) (sym (G.refused j b)) b) ∙ G.refused j b;
@@ -40,11 +40,11 @@ module _ (s : List ℕ) (c d : Cursor) (n : ℕ) (r : Shown) (G : GoesOn s c n d
   zero-add : 0 + n ≡ n
   zero-add = omega arith
 
-  of-term : (t : Term) → CursorAt s t 0 c → Dec (n ≤ size t) → showing s r ≡ take 1 (drop n (preorder 1 t))
-  of-term t C (yes m) = S.node t n (subst (λ (i : ℕ). CursorAt s t i d) zero-add (G.on t 0 C (omega (arith, m))))
-  of-term t C (no m) = let a : length (preorder 1 t) ≤ size t = omega (arith, preorder-length 1 t) in let b : length (preorder 1 t) ≤ n = omega (arith, m, preorder-length 1 t) in
+  of_term : (t : Term) → CursorAt s t 0 c → Dec (n ≤ size t) → showing s r ≡ take 1 (drop n (preorder 1 t))
+  of_term t C (yes m) = S.node t n (subst (λ (i : ℕ). CursorAt s t i d) zero-add (G.on t 0 C (omega (arith, m))))
+  of_term t C (no m) = let a : length (preorder 1 t) ≤ size t = omega (arith, preorder-length 1 t) in let b : length (preorder 1 t) ≤ n = omega (arith, m, preorder-length 1 t) in
       S.node t (size t) (G.ends t 0 C (omega (arith, m))) ∙ rw (drop_of_length-le (preorder 1 t) a, drop_of_length-le (preorder 1 t) b)
 
-  pub shown-after : Opens s c → NodeShown s n r
-  shown-after (Opens.refused {k} e b) = S.refused k (subst (Bears k) (sym (G.refused k b)) b) ∙ rw (e, drop-nil n)
-  shown-after (Opens.standing {t} C) = of-term t C (dec_le n (size t)) ∙ rw C.reads
+  pub shown_after : Opens s c → NodeShown s n r
+  shown_after (Opens.refused {k} e b) = S.refused k (subst (Bears k) (sym (G.refused k b)) b) ∙ rw (e, drop-nil n)
+  shown_after (Opens.standing {t} C) = of_term t C (dec_le n (size t)) ∙ rw C.reads

@@ -30,8 +30,8 @@ pub adds_same : {P Q : Node → Type 0} {M M' : List ℕ} → ((i : Node) → P 
 adds_same f a = record { at = λ i. Iff.trans (a.at i) (one_of Iff.rfl (f i)); room = a.room }
 
 -- one pass after another
-pub adds-both : {P Q : Node → Type 0} {M M' M'' : List ℕ} → Adds Q M M' → Adds P M' M'' → Adds (λ i. P i ⊎ Q i) M M''
-adds-both a b = record { at = λ i. Iff.trans (b.at i) (Iff.trans (one_of (a.at i) Iff.rfl) swapped); room = b.room ∙ a.room }
+pub adds_both : {P Q : Node → Type 0} {M M' M'' : List ℕ} → Adds Q M M' → Adds P M' M'' → Adds (λ i. P i ⊎ Q i) M M''
+adds_both a b = record { at = λ i. Iff.trans (b.at i) (Iff.trans (one_of (a.at i) Iff.rfl) swapped); room = b.room ∙ a.room }
   where
     swapped : {A B C : Type 0} → ((A ⊎ B) ⊎ C) ↔ (A ⊎ (C ⊎ B))
     swapped = (λ w. ⊎_elim (λ z. ⊎_map (λ y. y) inr z) (λ z. inr (inl z)) w, λ w. ⊎_elim (λ z. inl (inl z)) (λ z. ⊎_elim inr (λ y. inl (inr y)) z) w)

@@ -10,12 +10,12 @@ use lib.Seq.{get_or-set_same, get_or-set_other}
 use Rattle.ccsk.specs.Term.{Term, Label, Node}
 use Rattle.labelset.specs.declared.Labels.{Labels}
 use Rattle.labelset.specs.Set.{Shows, Exactly}
-use Rattle.labelset.proofs.Words.{all_ones, full-word}
-use Rattle.labelset.proofs.Sets.{set-whole}
+use Rattle.labelset.proofs.Words.{all_ones, full_word}
+use Rattle.labelset.proofs.Sets.{set_whole}
 use Rattle.offers.specs.Offers.{Shown, Showing}
 use Rattle.offers.specs.Forms.{Part}
-use Rattle.offers.proofs.Parts.{offers-low}
-use Rattle.wanted.specs.Kept.{shown-at, Keeps, Noted, Covers}
+use Rattle.offers.proofs.Parts.{offers_low}
+use Rattle.wanted.specs.Kept.{shown_at, Keeps, Noted, Covers}
 
 -- four words are written
 abbrev pub written : ℕ → Labels → List ℕ → List ℕ
@@ -43,8 +43,8 @@ module _ (n : ℕ) (s : Labels) (K : List ℕ) where
   past : (i k : ℕ) → i ≢ n → k < 4 → get_or (written n s K) (4 * i + k) 0 ≡ get_or K (4 * i + k) 0
   past i k f h = past_one (4 * i + k) (λ e. f (omega arith)) (λ e. f (omega arith)) (λ e. f (omega arith)) ∙ get_or-set_other K (4 * n) (4 * i + k) s.a 0 (λ e. f (omega arith))
 
-  pub keeps-written : 4 * n + 4 ≤ length K → Keeps n s K (written n s K)
-  keeps-written h = record {
+  pub keeps_written : 4 * n + 4 ≤ length K → Keeps n s K (written n s K)
+  keeps_written h = record {
     here = λ z. rw (
       past_one (4 * n) (λ e. omega arith) (λ e. omega arith) (λ e. omega arith) ∙ get_or-set_same K (4 * n) s.a 0 (omega arith),
       past_two (4 * n + 1) (λ e. omega arith) (λ e. omega arith) ∙ get_or-set_same one (4 * n + 1) s.b 0 (simp length-set (omega arith)),
@@ -55,8 +55,8 @@ module _ (n : ℕ) (s : Labels) (K : List ℕ) where
     long = simp length-set;
   }
 
-  pub keeps-nothing : length K < 4 * n + 4 → Keeps n s K K
-  keeps-nothing h = record { here = λ z. absurd (omega arith); there = λ i f. refl; long = refl }
+  pub keeps_nothing : length K < 4 * n + 4 → Keeps n s K K
+  keeps_nothing h = record { here = λ z. absurd (omega arith); there = λ i f. refl; long = refl }
 
 -- a set is told, and noted for node n
 pub noted : {n : Node} {s : Labels} {K K' K'' : List ℕ} → Keeps 0 s K K' → Keeps (n + 1) s K' K'' → 4 ≤ length K → Noted n s K K''
@@ -72,18 +72,18 @@ module _ {F A E K K' : List ℕ} {n : Node} {s : Labels} (k : Noted n s K K') (f
   pub covers_more : Covers F A E K'
   covers_more = record { at = λ i t l P h w. pick i t l P h w (ℕ_discrete i n) }
     where
-      pick : (i : Node) (t : Term) (l : Label) → Part F A E i t → 4 * (i + 1) + 4 ≤ length K' → Shown t l → Dec (i ≡ n) → Shows (shown-at K' (i + 1)) l
+      pick : (i : Node) (t : Term) (l : Label) → Part F A E i t → 4 * (i + 1) + 4 ≤ length K' → Shown t l → Dec (i ≡ n) → Shows (shown_at K' (i + 1)) l
       pick i t l P h w (yes e) = rw (e, k.here (rw (← e) (omega (arith, k.long)))) (((f t (rw e at P)).at l).1 w)
       pick i t l P h w (no e) = rw (k.there i e) (c.at i t l P (omega (arith, k.long)) w)
 
 -- a part whose noted labels are apart from W has no place that shows one of W
-pub none-shown : {F A E K : List ℕ} {n : Node} {t : Term} (want : Labels) → Covers F A E K → Part F A E n t → (4 * (n + 1) + 4 ≤ length K) × ((l : Label) → ¬ (Shows (shown-at K (n + 1)) l × Shows want l)) → (q : Node) → ¬ Showing (Shows want) t q
-none-shown {n = n} {t = t} want c P (h, a) q (l, w, o) = a l (c.at n t l P h (q, o), w)
+pub none_shown : {F A E K : List ℕ} {n : Node} {t : Term} (want : Labels) → Covers F A E K → Part F A E n t → (4 * (n + 1) + 4 ≤ length K) × ((l : Label) → ¬ (Shows (shown_at K (n + 1)) l × Shows want l)) → (q : Node) → ¬ Showing (Shows want) t q
+none_shown {n = n} {t = t} want c P (h, a) q (l, w, o) = a l (c.at n t l P h (q, o), w)
 
 -- a row with all bits set misses nothing
-pub covers-full : {F A E : List ℕ} (m : ℕ) → Covers F A E (replicate m all_ones)
-covers-full m = record {
+pub covers_full : {F A E : List ℕ} (m : ℕ) → Covers F A E (replicate m all_ones)
+covers_full m = record {
   at = λ i t l P h w. let f : 4 * (i + 1) + 4 ≤ m = rw (length-replicate {A = ℕ} m all_ones) at h in
       let z : (j : ℕ) → j < m → ◌≡◌ {A = ℕ} (get_or (replicate m all_ones) j 0) all_ones = λ j. get_or-replicate m j all_ones 0 in
-      rw (z (4 * (i + 1)) (omega arith), z (4 * (i + 1) + 1) (omega arith), z (4 * (i + 1) + 2) (omega arith), z (4 * (i + 1) + 3) (omega arith)) (((set-whole _ full-word).at l).1 (offers-low P.range w.1));
+      rw (z (4 * (i + 1)) (omega arith), z (4 * (i + 1) + 1) (omega arith), z (4 * (i + 1) + 2) (omega arith), z (4 * (i + 1) + 3) (omega arith)) (((set_whole _ full_word).at l).1 (offers_low P.range w.1));
 }

@@ -5,7 +5,7 @@ use Rattle.labelset.specs.declared.Labels.{Labels}
 use Rattle.labelset.specs.Set.{Shows, Exactly}
 use Rattle.offers.specs.Offers.{Shown, Wanted, At}
 use Rattle.offers.specs.Forms.{Part}
-use Rattle.wanted.specs.Kept.{shown-at, Covers}
+use Rattle.wanted.specs.Kept.{shown_at, Covers}
 
 -- The marks are those before, with the nodes of which P holds.
 pub record Adds (P : Node → Type 0) (M M' : List ℕ) : Type 0 where
@@ -19,7 +19,7 @@ pub record Marked (n : Node) (t : Term) (told : Labels) (M M' : List ℕ) (r : L
 
 -- what `mark` leaves, whichever part begins at node n; the set is told in front of the row
 pub record Marks (F A E : List ℕ) (n : Node) (told : Labels) (M K M' K' : List ℕ) : Type 0 where
-  pub part : (t : Term) → Part F A E n t → Marked n t told M M' (shown-at K' 0)
+  pub part : (t : Term) → Part F A E n t → Marked n t told M M' (shown_at K' 0)
   pub covers : Covers F A E K → Covers F A E K'
   pub room : length M' ≡ length M
   pub long : length K' ≡ length K

@@ -1,11 +1,11 @@
 // Which places of a record are wanted: one pass over its rows, down the term and from right to left.
 ghost use Rattle.std.specs.Prelude.{◌≡◌, ◌⊎◌, true, ℕ, ◌+◌, ◌*◌, ◌<◌, ◌≤◌, length, get_or};
 ghost use Rattle.ccsk.specs.Term.{Co};
-ghost use Rattle.format.specs.Limits.{node-limit};
+ghost use Rattle.format.specs.Limits.{node_limit};
 ghost use Rattle.labelset.specs.Set.{Shows, Exactly};
 ghost use Rattle.offers.specs.Forms.{SomePart};
 ghost use Rattle.index.specs.Whole.{Room};
-ghost use Rattle.wanted.specs.Kept.{shown-at, Keeps, Noted};
+ghost use Rattle.wanted.specs.Kept.{shown_at, Keeps, Noted};
 ghost use Rattle.wanted.specs.Pass.{Adds, Marks};
 
 use index::{BOTH, HIDDEN, NEXT, NOTHING, OWN, SECOND, second_part};
@@ -21,8 +21,8 @@ pub const WORDS: usize = 4;
 
 // The set at a place of the row.
 fn set_at(place: usize, row: &[u64]) -> Labels
-    requires { (place ≤ node-limit) × (4 * place + 4 ≤ length row.now) }
-    ensures { (result ≡ shown-at row.now place) × (4 * place + 4 ≤ length row.now) }
+    requires { (place ≤ node_limit) × (4 * place + 4 ≤ length row.now) }
+    ensures { (result ≡ shown_at row.now place) × (4 * place + 4 ≤ length row.now) }
 {
     let at = WORDS * place;
     Labels {
@@ -35,7 +35,7 @@ fn set_at(place: usize, row: &[u64]) -> Labels
 
 // Puts a set at a place of the row, if it goes so far.
 fn put(place: usize, set: Labels, row: &mut [u64])
-    requires { place ≤ node-limit }
+    requires { place ≤ node_limit }
     ensures { Keeps place set row.old row.new }
 {
     let at = WORDS * place;
@@ -50,7 +50,7 @@ fn put(place: usize, set: Labels, row: &mut [u64])
 
 // Tells what the part at node n shows, and notes it for the node.
 fn show(n: usize, set: Labels, row: &mut [u64])
-    requires { (n < node-limit) × (4 ≤ length row.old) }
+    requires { (n < node_limit) × (4 ≤ length row.old) }
     ensures { Noted n set row.old row.new }
 {
     put(0, set, row);
@@ -59,8 +59,8 @@ fn show(n: usize, set: Labels, row: &mut [u64])
 
 // Whether it is noted that the part at node n shows none of the labels.
 pub fn shows_none(n: usize, labels: Labels, row: &[u64]) -> bool
-    requires { n < node-limit }
-    ensures { result ≡ true → (4 * (n + 1) + 4 ≤ length row.now) × ((l : ℕ) → ¬ (Shows (shown-at row.now (n + 1)) l × Shows labels l)) }
+    requires { n < node_limit }
+    ensures { result ≡ true → (4 * (n + 1) + 4 ≤ length row.now) × ((l : ℕ) → ¬ (Shows (shown_at row.now (n + 1)) l × Shows labels l)) }
 {
     let place = n + 1;
     if row.len() < WORDS * place + WORDS {
@@ -71,7 +71,7 @@ pub fn shows_none(n: usize, labels: Labels, row: &[u64]) -> bool
 
 // Marks the prefix at node n, whose action is a, if its action is asked for.
 fn mark_own(n: usize, a: u8, told: Labels, marks: &mut [u8; NODES])
-    requires { (n < node-limit) × (length marks.old ≡ node-limit) }
+    requires { (n < node_limit) × (length marks.old ≡ node_limit) }
     ensures { Adds (λ i. (i ≡ n) × Shows told a) marks.old marks.new }
 {
     if has(told, a) {
@@ -91,8 +91,8 @@ fn asked(parallel: bool, told: Labels, right: Labels) -> Labels
 
 // The form of node n.
 fn form_at(n: usize, forms: &[u8; NODES]) -> u8
-    requires { (n < node-limit) × (length forms.now ≡ node-limit) }
-    ensures { (result ≡ get_or forms.now n 0) × (n < node-limit) }
+    requires { (n < node_limit) × (length forms.now ≡ node_limit) }
+    ensures { (result ≡ get_or forms.now n 0) × (n < node_limit) }
 {
     forms[n]
 }
@@ -113,7 +113,7 @@ pub fn mark(
     row: &mut [u64],
 )
     requires some_part { SomePart forms.now args.now ends.now n }
-    requires room { Room forms.now args.now ends.now × (length marks.old ≡ node-limit) × (4 ≤ length row.old) }
+    requires room { Room forms.now args.now ends.now × (length marks.old ≡ node_limit) × (4 ≤ length row.old) }
     ensures { Marks forms.now args.now ends.now n (record { a = ta; b = tb; c = tc; d = td }) marks.old row.old marks.new row.new }
 {
     let told = Labels {

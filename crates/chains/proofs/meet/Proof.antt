@@ -2,7 +2,7 @@
 use borrow.Author.Rules.{rules}
 use native.Mathlib.Omega.{arith}
 use Rattle.chains.specs.Reach.{other, asked, meets}
-use Rattle.keyset.proofs.Sets.{gain-few}
+use Rattle.keyset.proofs.Sets.{gain_few}
 use Rattle.chains.proofs.meet.Statement.{statement}
 use Rattle.chains.proofs.meet.Tie as tie
 
@@ -22,7 +22,7 @@ slice-write-queue : tie.Need-slice-write-queue
 slice-write-queue c = search rules
 
 add-result : tie.Need-overflow-add-result
-add-result c = omega (arith, gain-few c.add.ensures, c.before.before.before.before.before.requires.1, c.before.before.before.before.before.requires.2)
+add-result c = omega (arith, gain_few c.add.ensures, c.before.before.before.before.before.requires.1, c.before.before.before.before.before.requires.2)
 
 same_length : tie.Need-same-length
 same_length c = search rules

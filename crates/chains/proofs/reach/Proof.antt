@@ -3,10 +3,10 @@ use mathlib.Core.Path.{refl}
 use mathlib.Core.Logic.{inl}
 use Prim.Native.Nat.{suc, ◌-◌}
 use native.Mathlib.Omega.{arith}
-use Rattle.format.specs.Limits.{node-limit}
+use Rattle.format.specs.Limits.{node_limit}
 use Rattle.filing.specs.Cabinet.{cabinet}
-use Rattle.chains.proofs.Meeting.{queue-room}
-use Rattle.chains.proofs.Rounds.{Round, none-reached, first_round, next-from, next-round, closed}
+use Rattle.chains.proofs.Meeting.{queue_room}
+use Rattle.chains.proofs.Rounds.{Round, none_reached, first_round, next_from, next_round, closed}
 use Rattle.chains.proofs.reach.Statement.{statement}
 use Rattle.chains.proofs.reach.Tie as tie
 
@@ -14,31 +14,31 @@ abbrev invariant-loop : tie.invariant-loop
 invariant-loop asked upper lower older latest marks₀ queue₀ tail₀ head₀ marks queue tail head = Round (cabinet upper lower older latest) asked marks queue head tail
 
 abbrev decreases-loop : tie.decreases-loop
-decreases-loop asked upper lower older latest marks₀ queue₀ tail₀ head₀ marks queue tail head = suc node-limit - head
+decreases-loop asked upper lower older latest marks₀ queue₀ tail₀ head₀ marks queue tail head = suc node_limit - head
 
 follow-requires : tie.Need-follow-requires invariant-loop decreases-loop
-follow-requires c κs = (c.before.before.before.before.before.before.before.requires.0, (none-reached (cabinet c.before.before.before.before.before.before.before.args.upper.now c.before.before.before.before.before.before.before.args.lower.now c.before.before.before.before.before.before.before.args.older.now c.before.before.before.before.before.before.before.args.latest.now) c.before.before.before.before.before.before.before.args.asked _ _ c.before.before.before.before.before.before.before.requires.1.0 c.before.before.before.before.before.before.before.requires.1.1, inl refl))
+follow-requires c κs = (c.before.before.before.before.before.before.before.requires.0, (none_reached (cabinet c.before.before.before.before.before.before.before.args.upper.now c.before.before.before.before.before.before.before.args.lower.now c.before.before.before.before.before.before.before.args.older.now c.before.before.before.before.before.before.before.args.latest.now) c.before.before.before.before.before.before.before.args.asked _ _ c.before.before.before.before.before.before.before.requires.1.0 c.before.before.before.before.before.before.before.requires.1.1, inl refl))
 
 loop-holds : tie.Need-loop-init invariant-loop decreases-loop
 loop-holds c = first_round c.before.before.follow.ensures
 
 mul-follow : tie.Need-overflow-mul-follow invariant-loop decreases-loop
-mul-follow c = omega (arith, c.loop-test.true, queue-room (cabinet c.before.before.before.before.before.before.before.before.before.before.before.before.args.upper.now c.before.before.before.before.before.before.before.before.before.before.before.before.args.lower.now c.before.before.before.before.before.before.before.before.before.before.before.before.args.older.now c.before.before.before.before.before.before.before.before.before.before.before.before.args.latest.now) c.before.before.before.before.before.before.before.before.before.before.before.before.requires.0 c.before.loop.invariant.reached)
+mul-follow c = omega (arith, c.loop-test.true, queue_room (cabinet c.before.before.before.before.before.before.before.before.before.before.before.before.args.upper.now c.before.before.before.before.before.before.before.before.before.before.before.before.args.lower.now c.before.before.before.before.before.before.before.before.before.before.before.before.args.older.now c.before.before.before.before.before.before.before.before.before.before.before.before.args.latest.now) c.before.before.before.before.before.before.before.before.before.before.before.before.requires.0 c.before.loop.invariant.reached)
 
 slice-read-follow : tie.Need-slice-read-follow invariant-loop decreases-loop
-slice-read-follow c = omega (arith, c.before.loop-test.true, queue-room (cabinet c.before.before.before.before.before.before.before.before.before.before.before.before.before.args.upper.now c.before.before.before.before.before.before.before.before.before.before.before.before.before.args.lower.now c.before.before.before.before.before.before.before.before.before.before.before.before.before.args.older.now c.before.before.before.before.before.before.before.before.before.before.before.before.before.args.latest.now) c.before.before.before.before.before.before.before.before.before.before.before.before.before.requires.0 c.before.before.loop.invariant.reached, c.before.before.loop.invariant.reached.sized)
+slice-read-follow c = omega (arith, c.before.loop-test.true, queue_room (cabinet c.before.before.before.before.before.before.before.before.before.before.before.before.before.args.upper.now c.before.before.before.before.before.before.before.before.before.before.before.before.before.args.lower.now c.before.before.before.before.before.before.before.before.before.before.before.before.before.args.older.now c.before.before.before.before.before.before.before.before.before.before.before.before.before.args.latest.now) c.before.before.before.before.before.before.before.before.before.before.before.before.before.requires.0 c.before.before.loop.invariant.reached, c.before.before.loop.invariant.reached.sized)
 
 follow-requires-2 : tie.Need-follow-requires-2 invariant-loop decreases-loop
-follow-requires-2 c κs = (c.before.before.before.before.before.before.before.before.before.before.before.before.before.before.before.requires.0, (c.before.before.before.before.loop.invariant.reached, next-from c.before.before.before.before.loop.invariant c.before.before.before.loop-test.true))
+follow-requires-2 c κs = (c.before.before.before.before.before.before.before.before.before.before.before.before.before.before.before.requires.0, (c.before.before.before.before.loop.invariant.reached, next_from c.before.before.before.before.loop.invariant c.before.before.before.loop-test.true))
 
 add-head : tie.Need-overflow-add-head invariant-loop decreases-loop
-add-head c = omega (arith, c.before.before.before.before.before.before.loop-test.true, queue-room (cabinet c.before.before.before.before.before.before.before.before.before.before.before.before.before.before.before.before.before.before.args.upper.now c.before.before.before.before.before.before.before.before.before.before.before.before.before.before.before.before.before.before.args.lower.now c.before.before.before.before.before.before.before.before.before.before.before.before.before.before.before.before.before.before.args.older.now c.before.before.before.before.before.before.before.before.before.before.before.before.before.before.before.before.before.before.args.latest.now) c.before.before.before.before.before.before.before.before.before.before.before.before.before.before.before.before.before.before.requires.0 c.before.before.before.before.before.before.before.loop.invariant.reached)
+add-head c = omega (arith, c.before.before.before.before.before.before.loop-test.true, queue_room (cabinet c.before.before.before.before.before.before.before.before.before.before.before.before.before.before.before.before.before.before.args.upper.now c.before.before.before.before.before.before.before.before.before.before.before.before.before.before.before.before.before.before.args.lower.now c.before.before.before.before.before.before.before.before.before.before.before.before.before.before.before.before.before.before.args.older.now c.before.before.before.before.before.before.before.before.before.before.before.before.before.before.before.before.before.before.args.latest.now) c.before.before.before.before.before.before.before.before.before.before.before.before.before.before.before.before.before.before.requires.0 c.before.before.before.before.before.before.before.loop.invariant.reached)
 
 loop-less : tie.Need-loop-smaller invariant-loop decreases-loop
-loop-less c = omega (arith, c.before.before.before.before.before.before.loop-test.true, queue-room (cabinet c.before.before.before.before.before.before.before.before.before.before.before.before.before.before.before.before.before.before.args.upper.now c.before.before.before.before.before.before.before.before.before.before.before.before.before.before.before.before.before.before.args.lower.now c.before.before.before.before.before.before.before.before.before.before.before.before.before.before.before.before.before.before.args.older.now c.before.before.before.before.before.before.before.before.before.before.before.before.before.before.before.before.before.before.args.latest.now) c.before.before.before.before.before.before.before.before.before.before.before.before.before.before.before.before.before.before.requires.0 c.before.before.before.before.before.before.before.loop.invariant.reached)
+loop-less c = omega (arith, c.before.before.before.before.before.before.loop-test.true, queue_room (cabinet c.before.before.before.before.before.before.before.before.before.before.before.before.before.before.before.before.before.before.args.upper.now c.before.before.before.before.before.before.before.before.before.before.before.before.before.before.before.before.before.before.args.lower.now c.before.before.before.before.before.before.before.before.before.before.before.before.before.before.before.before.before.before.args.older.now c.before.before.before.before.before.before.before.before.before.before.before.before.before.before.before.before.before.before.args.latest.now) c.before.before.before.before.before.before.before.before.before.before.before.before.before.before.before.before.before.before.requires.0 c.before.before.before.before.before.before.before.loop.invariant.reached)
 
 loop-again : tie.Need-loop-preserved invariant-loop decreases-loop
-loop-again c = next-round c.before.before.before.before.before.before.before.loop.invariant c.before.before.before.before.before.before.loop-test.true c.before.before.follow2.ensures
+loop-again c = next_round c.before.before.before.before.before.before.before.loop.invariant c.before.before.before.before.before.before.loop-test.true c.before.before.follow2.ensures
 
 same_length : tie.Need-same-length invariant-loop decreases-loop
 same_length c = omega (arith, c.before.loop.invariant.reached.sized, c.before.before.before.before.before.before.before.before.before.before.before.before.requires.1.1)

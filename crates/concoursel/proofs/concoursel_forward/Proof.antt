@@ -1,5 +1,5 @@
 -- `concoursel_forward` meets its contract: the operation's answer, packed.
-use Rattle.packing.proofs.Packs.{pack-step}
+use Rattle.packing.proofs.Packs.{pack_step}
 use borrow.Author.Rules.{rules}
 use Rattle.concoursel.proofs.concoursel_forward.Statement.{statement}
 use Rattle.concoursel.proofs.concoursel_forward.Tie as tie
@@ -14,7 +14,7 @@ same_length : tie.Need-same-length
 same_length c = search rules
 
 returns : tie.Need-returns
-returns c = pack-step _ _ _ _ c.packed_step.ensures c.before.before.before.forward.ensures
+returns c = pack_step _ _ _ _ c.packed_step.ensures c.before.before.before.forward.ensures
 
 pub concoursel-forward-spec : {M : Type 1} → statement M
 concoursel-forward-spec =

@@ -1,5 +1,5 @@
 -- `concoursel_take_back` meets its contract: the operation's answer, packed.
-use Rattle.packing.proofs.Packs.{pack-both}
+use Rattle.packing.proofs.Packs.{pack_both}
 use borrow.Author.Rules.{rules}
 use borrow.Author.Rules.{rules}
 use Rattle.concoursel.proofs.concoursel_take_back.Statement.{statement}
@@ -18,7 +18,7 @@ same-length-2 : tie.Need-same-length-2
 same-length-2 c = search rules
 
 returns : tie.Need-returns
-returns c = pack-both _ _ _ _ _ c.packed-number.ensures c.before.before.before.before.before.take_back.ensures
+returns c = pack_both _ _ _ _ _ c.packed-number.ensures c.before.before.before.before.before.take_back.ensures
 
 pub concoursel-take-back-spec : {M : Type 1} → statement M
 concoursel-take-back-spec =

@@ -1,5 +1,5 @@
 -- `concoursel_undo` meets its contract: the operation's answer, packed.
-use Rattle.packing.proofs.Packs.{pack-step}
+use Rattle.packing.proofs.Packs.{pack_step}
 use borrow.Author.Rules.{rules}
 use Rattle.concoursel.proofs.concoursel_undo.Statement.{statement}
 use Rattle.concoursel.proofs.concoursel_undo.Tie as tie
@@ -14,7 +14,7 @@ same_length : tie.Need-same-length
 same_length c = search rules
 
 returns : tie.Need-returns
-returns c = pack-step _ _ _ _ c.packed_step.ensures c.before.before.before.undo.ensures
+returns c = pack_step _ _ _ _ c.packed_step.ensures c.before.before.before.undo.ensures
 
 pub concoursel-undo-spec : {M : Type 1} → statement M
 concoursel-undo-spec = tie.close (tie.spec undo-requires packed-step-requires same_length returns)

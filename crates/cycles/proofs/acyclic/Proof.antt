@@ -1,6 +1,6 @@
 -- `acyclic` meets its contract: what it calls, one after the other, makes all ready for the queue, and the queue decides.
 use native.Mathlib.Omega.{arith}
-use Rattle.cycles.proofs.Whole.{first-asked, second-asked, ready, answer}
+use Rattle.cycles.proofs.Whole.{first_asked, second_asked, ready, answer}
 use borrow.Author.Rules.{rules}
 use Rattle.cycles.proofs.acyclic.Statement.{statement}
 use Rattle.cycles.proofs.acyclic.Tie as tie
@@ -9,10 +9,10 @@ clear-requires : tie.Need-clear-requires
 clear-requires c κs = search rules
 
 count-requires : tie.Need-count-requires
-count-requires c κs = first-asked c.before.before.before.before.before.before.before.before.before.args.one.now c.before.before.before.before.before.before.before.before.before.args.two.now c.before.before.before.before.before.before.before.before.before.args.counters.now c.before.before.before.clear.new.0 c.before.before.before.before.before.before.before.before.before.requires.0 c.before.before.before.before.before.before.before.before.before.requires.1.0 c.before.before.before.clear.ensures
+count-requires c κs = first_asked c.before.before.before.before.before.before.before.before.before.args.one.now c.before.before.before.before.before.before.before.before.before.args.two.now c.before.before.before.before.before.before.before.before.before.args.counters.now c.before.before.before.clear.new.0 c.before.before.before.before.before.before.before.before.before.requires.0 c.before.before.before.before.before.before.before.before.before.requires.1.0 c.before.before.before.clear.ensures
 
 count-requires-2 : tie.Need-count-requires-2
-count-requires-2 c κs = second-asked c.before.before.before.before.before.before.before.before.before.before.before.before.before.args.one.now c.before.before.before.before.before.before.before.before.before.before.before.before.before.args.two.now c.before.before.before.before.before.before.before.before.before.before.before.before.before.args.counters.now c.before.before.before.before.before.before.before.clear.new.0 c.before.before.before.before.before.before.before.before.before.before.before.before.before.requires.0 c.before.before.before.before.before.before.before.before.before.before.before.before.before.requires.1.0 c.before.before.before.before.before.before.before.clear.ensures c.before.before.before.count.new.1.0 (search rules) c.before.before.before.count.ensures
+count-requires-2 c κs = second_asked c.before.before.before.before.before.before.before.before.before.before.before.before.before.args.one.now c.before.before.before.before.before.before.before.before.before.before.before.before.before.args.two.now c.before.before.before.before.before.before.before.before.before.before.before.before.before.args.counters.now c.before.before.before.before.before.before.before.clear.new.0 c.before.before.before.before.before.before.before.before.before.before.before.before.before.requires.0 c.before.before.before.before.before.before.before.before.before.before.before.before.before.requires.1.0 c.before.before.before.before.before.before.before.clear.ensures c.before.before.before.count.new.1.0 (search rules) c.before.before.before.count.ensures
 
 gather-requires : tie.Need-gather-requires
 gather-requires c κs = search rules

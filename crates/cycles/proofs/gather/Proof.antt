@@ -6,8 +6,8 @@ use Prim.Native.Nat.{◌≤◌, ◌-◌}
 use mathlib.Core.Logic.{⊎_elim}
 use lib.ListN.{length, length-set}
 use Rattle.cycles.specs.Queue.{Queued}
-use Rattle.cycles.proofs.Queues.{queued-none}
-use Rattle.cycles.proofs.Steps.{gather-free, gather-skip, gather-room, gathered}
+use Rattle.cycles.proofs.Queues.{queued_none}
+use Rattle.cycles.proofs.Steps.{gather_free, gather_skip, gather_room, gathered}
 use Rattle.cycles.proofs.gather.Statement.{statement}
 use Rattle.cycles.proofs.gather.Tie as tie
 
@@ -18,7 +18,7 @@ abbrev decreases-loop : tie.decreases-loop
 decreases-loop counters queue₀ tail₀ k₀ queue tail k = length counters - k
 
 loop-holds : tie.Need-loop-init invariant-loop decreases-loop
-loop-holds c = (search rules, refl, queued-none c.before.before.args.counters.now c.before.before.args.queue.now)
+loop-holds c = (search rules, refl, queued_none c.before.before.args.counters.now c.before.before.args.queue.now)
 
 wide-requires : tie.Need-wide-requires invariant-loop decreases-loop
 wide-requires c κs = search rules
@@ -33,13 +33,13 @@ shared-slice-read-if2 : tie.Need-shared-slice-read-if2 invariant-loop decreases-
 shared-slice-read-if2 c = search rules
 
 mul-queue : tie.Need-overflow-mul-queue invariant-loop decreases-loop
-mul-queue c = omega (arith, gather-room c.before.before.before.before.before.before.before.before.args.counters.now c.before.before.before.before.before.loop.queue c.before.before.before.before.before.loop.tail c.before.before.before.before.before.loop.k c.before.before.before.before.before.loop.invariant.2, c.before.before.before.before.wide.ensures, c.before.before.before.before.before.loop.invariant.1)
+mul-queue c = omega (arith, gather_room c.before.before.before.before.before.before.before.before.args.counters.now c.before.before.before.before.before.loop.queue c.before.before.before.before.before.loop.tail c.before.before.before.before.before.loop.k c.before.before.before.before.before.loop.invariant.2, c.before.before.before.before.wide.ensures, c.before.before.before.before.before.loop.invariant.1)
 
 slice-write-queue : tie.Need-slice-write-queue invariant-loop decreases-loop
-slice-write-queue c = omega (arith, gather-room c.before.before.before.before.before.before.before.before.args.counters.now c.before.before.before.before.before.loop.queue c.before.before.before.before.before.loop.tail c.before.before.before.before.before.loop.k c.before.before.before.before.before.loop.invariant.2, c.before.before.before.before.wide.ensures, c.before.before.before.before.before.loop.invariant.1)
+slice-write-queue c = omega (arith, gather_room c.before.before.before.before.before.before.before.before.args.counters.now c.before.before.before.before.before.loop.queue c.before.before.before.before.before.loop.tail c.before.before.before.before.before.loop.k c.before.before.before.before.before.loop.invariant.2, c.before.before.before.before.wide.ensures, c.before.before.before.before.before.loop.invariant.1)
 
 add-tail : tie.Need-overflow-add-tail invariant-loop decreases-loop
-add-tail c = omega (arith, gather-room c.before.before.before.before.before.before.before.before.args.counters.now c.before.before.before.before.before.loop.queue c.before.before.before.before.before.loop.tail c.before.before.before.before.before.loop.k c.before.before.before.before.before.loop.invariant.2, c.before.before.before.before.wide.ensures, c.before.before.before.before.before.loop.invariant.1)
+add-tail c = omega (arith, gather_room c.before.before.before.before.before.before.before.before.args.counters.now c.before.before.before.before.before.loop.queue c.before.before.before.before.before.loop.tail c.before.before.before.before.before.loop.k c.before.before.before.before.before.loop.invariant.2, c.before.before.before.before.wide.ensures, c.before.before.before.before.before.loop.invariant.1)
 
 add-k : tie.Need-overflow-add-k invariant-loop decreases-loop
 add-k c = search rules
@@ -48,7 +48,7 @@ loop-less : tie.Need-loop-smaller invariant-loop decreases-loop
 loop-less c = search rules
 
 loop-again : tie.Need-loop-preserved invariant-loop decreases-loop
-loop-again c = ⊎_elim (λ w. (omega (arith, c.before.before.before.before.wide.ensures), rw w.1 (simp length-set c.before.before.before.before.before.loop.invariant.1), rw (w.1, w.2) (gather-free c.before.before.before.before.before.before.before.before.args.counters.now c.before.before.before.before.before.loop.queue c.before.before.before.before.before.loop.tail c.before.before.before.before.before.loop.k c.before.before.wide2.result c.before.before.wide2.ensures c.before.before.before.before.before.loop.invariant.2 w.0.taken (omega (arith, c.before.before.before.before.wide.ensures)) (omega (arith, c.before.before.before.before.before.before.before.before.requires, c.before.before.before.before.before.loop.invariant.1))))) (λ w. (omega (arith, c.before.before.before.before.wide.ensures), rw w.1 c.before.before.before.before.before.loop.invariant.1, rw (w.1, w.2) (gather-skip c.before.before.before.before.before.before.before.before.args.counters.now c.before.before.before.before.before.loop.queue c.before.before.before.before.before.loop.tail c.before.before.before.before.before.loop.k c.before.before.wide2.result c.before.before.wide2.ensures c.before.before.before.before.before.loop.invariant.2 w.0.left))) c.if2.branch
+loop-again c = ⊎_elim (λ w. (omega (arith, c.before.before.before.before.wide.ensures), rw w.1 (simp length-set c.before.before.before.before.before.loop.invariant.1), rw (w.1, w.2) (gather_free c.before.before.before.before.before.before.before.before.args.counters.now c.before.before.before.before.before.loop.queue c.before.before.before.before.before.loop.tail c.before.before.before.before.before.loop.k c.before.before.wide2.result c.before.before.wide2.ensures c.before.before.before.before.before.loop.invariant.2 w.0.taken (omega (arith, c.before.before.before.before.wide.ensures)) (omega (arith, c.before.before.before.before.before.before.before.before.requires, c.before.before.before.before.before.loop.invariant.1))))) (λ w. (omega (arith, c.before.before.before.before.wide.ensures), rw w.1 c.before.before.before.before.before.loop.invariant.1, rw (w.1, w.2) (gather_skip c.before.before.before.before.before.before.before.before.args.counters.now c.before.before.before.before.before.loop.queue c.before.before.before.before.before.loop.tail c.before.before.before.before.before.loop.k c.before.before.wide2.result c.before.before.wide2.ensures c.before.before.before.before.before.loop.invariant.2 w.0.left))) c.if2.branch
 
 same_length : tie.Need-same-length invariant-loop decreases-loop
 same_length c = search rules

@@ -3,7 +3,7 @@ use native.Mathlib.Omega.{arith}
 use mathlib.Core.Path.{ap}
 use Prim.Native.Nat.{ℕ}
 use lib.ListN.{get_or}
-use Rattle.cycles.proofs.Steps.{release-fell, release-free}
+use Rattle.cycles.proofs.Steps.{release_fell, release_free}
 use borrow.Author.Rules.{rules}
 use Rattle.cycles.proofs.release.Statement.{statement}
 use Rattle.cycles.proofs.release.Tie as tie
@@ -42,13 +42,13 @@ same-length-2 : tie.Need-same-length-2
 same-length-2 c = search rules
 
 returns : tie.Need-returns
-returns c = release-free c.before.before.before.before.before.args.u c.before.before.wide.result c.before.before.before.before.before.args.counters.now c.before.before.before.before.before.args.queue.now c.before.before.before.before.before.args.tail c.before.before.wide.ensures c.before.before.before.before.before.requires.1.0 c.if1.true
+returns c = release_free c.before.before.before.before.before.args.u c.before.before.wide.result c.before.before.before.before.before.args.counters.now c.before.before.before.before.before.args.queue.now c.before.before.before.before.before.args.tail c.before.before.wide.ensures c.before.before.before.before.before.requires.1.0 c.if1.true
 
 same-length-3 : tie.Need-same-length-3
 same-length-3 c = search rules
 
 returns-2 : tie.Need-returns-2
-returns-2 c = release-fell c.before.before.before.before.before.args.u c.before.before.wide.result c.before.before.before.before.before.args.counters.now c.before.before.before.before.before.args.queue.now c.before.before.before.before.before.args.tail c.before.before.wide.ensures c.before.before.before.before.before.requires.1.0 c.if1.false
+returns-2 c = release_fell c.before.before.before.before.before.args.u c.before.before.wide.result c.before.before.before.before.before.args.counters.now c.before.before.before.before.before.args.queue.now c.before.before.before.before.before.args.tail c.before.before.wide.ensures c.before.before.before.before.before.requires.1.0 c.if1.false
 
 pub release_spec : {M : Type 1} → statement M
 release_spec =

@@ -2,11 +2,11 @@
 use borrow.Author.Rules.{rules}
 use mathlib.Core.Path.{refl, subst}
 use native.Mathlib.Omega.{arith}
-use Rattle.reader.proofs.Whole.{slice-bytes}
-use Rattle.reader.proofs.Due.{more_bytes, pass-refused, pass-good, key-inside}
+use Rattle.reader.proofs.Whole.{slice_bytes}
+use Rattle.reader.proofs.Due.{more_bytes, pass_refused, pass_good, key_inside}
 use Rattle.filing.specs.Cabinet.{cabinet}
 use Rattle.filing.specs.Record.{Stands}
-use Rattle.filing.proofs.Filling.{Passing, start, onward, stack-room, children-few, link-room, told, all-filed, up_to}
+use Rattle.filing.proofs.Filling.{Passing, start, onward, stack_room, children_few, link_room, told, all_filed, up_to}
 use Rattle.filing.proofs.file_all.Statement.{statement}
 use Rattle.filing.proofs.file_all.Tie as tie
 
@@ -39,25 +39,25 @@ same-length-4 : tie.Need-same-length-4 invariant-loop decreases-loop
 same-length-4 c = omega (arith, c.before.before.before.before.before.before.loop.invariant.holding.filed.sized.latest, c.before.before.before.before.before.before.before.before.before.before.before.before.requires.1.sized.latest)
 
 returns : tie.Need-returns invariant-loop decreases-loop
-returns c = pass-refused c.before.before.before.before.before.before.before.before.before.before.before.before.args.bytes.now c.before.before.before.before.before.before.loop.at c.before.before.before.before.before.before.loop.left c.before.before.before.before.before.before.loop.many c.before.before.before.pass-node.result _ c.before.before.before.pass-node.ensures _ c.before.c.given.1
+returns c = pass_refused c.before.before.before.before.before.before.before.before.before.before.before.before.args.bytes.now c.before.before.before.before.before.before.loop.at c.before.before.before.before.before.before.loop.left c.before.before.before.before.before.before.loop.many c.before.before.before.pass-node.result _ c.before.before.before.pass-node.ensures _ c.before.c.given.1
 
 enum-known-children : tie.Need-enum-known-children invariant-loop decreases-loop
 enum-known-children c = search rules
 
 key-at-requires : tie.Need-key-at-requires invariant-loop decreases-loop
-key-at-requires c κs = ((pass-good c.before.before.before.before.before.before.before.before.before.before.before.before.args.bytes.now c.before.before.before.before.before.before.loop.at c.before.before.before.before.before.before.loop.left c.before.before.before.before.before.before.loop.many c.before.before.before.pass-node.result _ c.before.before.before.pass-node.ensures _ _ _ c.before.children.given.1).inside, key-inside (pass-good c.before.before.before.before.before.before.before.before.before.before.before.before.args.bytes.now c.before.before.before.before.before.before.loop.at c.before.before.before.before.before.before.loop.left c.before.before.before.before.before.before.loop.many c.before.before.before.pass-node.result _ c.before.before.before.pass-node.ensures _ _ _ c.before.children.given.1).good)
+key-at-requires c κs = ((pass_good c.before.before.before.before.before.before.before.before.before.before.before.before.args.bytes.now c.before.before.before.before.before.before.loop.at c.before.before.before.before.before.before.loop.left c.before.before.before.before.before.before.loop.many c.before.before.before.pass-node.result _ c.before.before.before.pass-node.ensures _ _ _ c.before.children.given.1).inside, key_inside (pass_good c.before.before.before.before.before.before.before.before.before.before.before.before.args.bytes.now c.before.before.before.before.before.before.loop.at c.before.before.before.before.before.before.loop.left c.before.before.before.before.before.before.loop.many c.before.before.before.pass-node.result _ c.before.before.before.pass-node.ensures _ _ _ c.before.children.given.1).good)
 
 sub-up : tie.Need-overflow-sub-up invariant-loop decreases-loop
 sub-up c = c.before.before.before.before.before.before.loop-test.true
 
 mul-up : tie.Need-overflow-mul-up invariant-loop decreases-loop
-mul-up c = omega (arith, (pass-good c.before.before.before.before.before.before.before.before.before.before.before.before.before.args.bytes.now c.before.before.before.before.before.before.before.loop.at c.before.before.before.before.before.before.before.loop.left c.before.before.before.before.before.before.before.loop.many c.before.before.before.before.pass-node.result _ c.before.before.before.before.pass-node.ensures _ _ _ c.before.before.children.given.1).deep)
+mul-up c = omega (arith, (pass_good c.before.before.before.before.before.before.before.before.before.before.before.before.before.args.bytes.now c.before.before.before.before.before.before.before.loop.at c.before.before.before.before.before.before.before.loop.left c.before.before.before.before.before.before.before.loop.many c.before.before.before.before.pass-node.result _ c.before.before.before.before.pass-node.ensures _ _ _ c.before.before.children.given.1).deep)
 
 array-read-up : tie.Need-array-read-up invariant-loop decreases-loop
-array-read-up c = omega (arith, c.before.before.before.before.before.before.loop-test.true, c.before.before.before.before.before.before.before.loop.invariant.long, (pass-good c.before.before.before.before.before.before.before.before.before.before.before.before.before.args.bytes.now c.before.before.before.before.before.before.before.loop.at c.before.before.before.before.before.before.before.loop.left c.before.before.before.before.before.before.before.loop.many c.before.before.before.before.pass-node.result _ c.before.before.before.before.pass-node.ensures _ _ _ c.before.before.children.given.1).deep)
+array-read-up c = omega (arith, c.before.before.before.before.before.before.loop-test.true, c.before.before.before.before.before.before.before.loop.invariant.long, (pass_good c.before.before.before.before.before.before.before.before.before.before.before.before.before.args.bytes.now c.before.before.before.before.before.before.before.loop.at c.before.before.before.before.before.before.before.loop.left c.before.before.before.before.before.before.before.loop.many c.before.before.before.before.pass-node.result _ c.before.before.before.before.pass-node.ensures _ _ _ c.before.before.children.given.1).deep)
 
 file-requires : tie.Need-file-requires invariant-loop decreases-loop
-file-requires c κs = (c.before.before.before.before.before.before.before.before.before.before.before.loop.invariant.holding.filed.sized, link-room c.before.before.before.before.before.before.before.before.before.before.before.before.before.before.before.before.before.args.bytes.now c.before.before.before.before.before.before.before.before.before.before.before.before.before.before.before.before.before.args.key (cabinet c.before.before.before.before.before.before.before.before.before.before.before.loop.upper c.before.before.before.before.before.before.before.before.before.before.before.loop.lower c.before.before.before.before.before.before.before.before.before.before.before.loop.older c.before.before.before.before.before.before.before.before.before.before.before.loop.latest) c.before.before.before.before.before.before.before.before.before.before.before.loop.due c.before.before.before.before.before.before.before.before.before.before.before.loop.ups c.before.before.before.before.before.before.before.before.before.before.before.loop.many c.before.before.before.before.before.before.before.before.before.before.before.loop.left c.before.before.before.before.before.before.before.before.before.before.before.loop.at c.before.before.before.before.before.before.before.before.before.before.before.loop.links c.before.before.before.before.before.before.before.before.before.before.before.loop.met c.before.before.before.before.before.before.before.before.before.before.before.loop.invariant c.before.before.before.before.before.before.before.before.before.before.loop-test.true _ _ _ _ (pass-good c.before.before.before.before.before.before.before.before.before.before.before.before.before.before.before.before.before.args.bytes.now c.before.before.before.before.before.before.before.before.before.before.before.loop.at c.before.before.before.before.before.before.before.before.before.before.before.loop.left c.before.before.before.before.before.before.before.before.before.before.before.loop.many c.before.before.before.before.before.before.before.before.pass-node.result _ c.before.before.before.before.before.before.before.before.pass-node.ensures _ _ _ c.before.before.before.before.before.before.children.given.1))
+file-requires c κs = (c.before.before.before.before.before.before.before.before.before.before.before.loop.invariant.holding.filed.sized, link_room c.before.before.before.before.before.before.before.before.before.before.before.before.before.before.before.before.before.args.bytes.now c.before.before.before.before.before.before.before.before.before.before.before.before.before.before.before.before.before.args.key (cabinet c.before.before.before.before.before.before.before.before.before.before.before.loop.upper c.before.before.before.before.before.before.before.before.before.before.before.loop.lower c.before.before.before.before.before.before.before.before.before.before.before.loop.older c.before.before.before.before.before.before.before.before.before.before.before.loop.latest) c.before.before.before.before.before.before.before.before.before.before.before.loop.due c.before.before.before.before.before.before.before.before.before.before.before.loop.ups c.before.before.before.before.before.before.before.before.before.before.before.loop.many c.before.before.before.before.before.before.before.before.before.before.before.loop.left c.before.before.before.before.before.before.before.before.before.before.before.loop.at c.before.before.before.before.before.before.before.before.before.before.before.loop.links c.before.before.before.before.before.before.before.before.before.before.before.loop.met c.before.before.before.before.before.before.before.before.before.before.before.loop.invariant c.before.before.before.before.before.before.before.before.before.before.loop-test.true _ _ _ _ (pass_good c.before.before.before.before.before.before.before.before.before.before.before.before.before.before.before.before.before.args.bytes.now c.before.before.before.before.before.before.before.before.before.before.before.loop.at c.before.before.before.before.before.before.before.before.before.before.before.loop.left c.before.before.before.before.before.before.before.before.before.before.before.loop.many c.before.before.before.before.before.before.before.before.pass-node.result _ c.before.before.before.before.before.before.before.before.pass-node.ensures _ _ _ c.before.before.before.before.before.before.children.given.1))
 
 met-by-requires : tie.Need-met-by-requires invariant-loop decreases-loop
 met-by-requires c κs = search rules
@@ -69,16 +69,16 @@ below-requires : tie.Need-below-requires invariant-loop decreases-loop
 below-requires c κs = search rules
 
 push-requires : tie.Need-push-requires invariant-loop decreases-loop
-push-requires c κs = (c.before.before.before.before.before.before.before.before.before.before.before.before.before.before.before.before.before.before.before.before.before.before.loop-test.true, stack-room c.before.before.before.before.before.before.before.before.before.before.before.before.before.before.before.before.before.before.before.before.before.before.before.before.before.before.before.before.before.args.bytes.now c.before.before.before.before.before.before.before.before.before.before.before.before.before.before.before.before.before.before.before.before.before.before.before.before.before.before.before.before.before.args.key (cabinet c.before.before.before.before.before.before.before.before.before.before.before.before.before.before.before.before.before.before.before.before.before.before.before.loop.upper c.before.before.before.before.before.before.before.before.before.before.before.before.before.before.before.before.before.before.before.before.before.before.before.loop.lower c.before.before.before.before.before.before.before.before.before.before.before.before.before.before.before.before.before.before.before.before.before.before.before.loop.older c.before.before.before.before.before.before.before.before.before.before.before.before.before.before.before.before.before.before.before.before.before.before.before.loop.latest) c.before.before.before.before.before.before.before.before.before.before.before.before.before.before.before.before.before.before.before.before.before.before.before.loop.due c.before.before.before.before.before.before.before.before.before.before.before.before.before.before.before.before.before.before.before.before.before.before.before.loop.ups c.before.before.before.before.before.before.before.before.before.before.before.before.before.before.before.before.before.before.before.before.before.before.before.loop.many c.before.before.before.before.before.before.before.before.before.before.before.before.before.before.before.before.before.before.before.before.before.before.before.loop.left c.before.before.before.before.before.before.before.before.before.before.before.before.before.before.before.before.before.before.before.before.before.before.before.loop.at c.before.before.before.before.before.before.before.before.before.before.before.before.before.before.before.before.before.before.before.before.before.before.before.loop.links c.before.before.before.before.before.before.before.before.before.before.before.before.before.before.before.before.before.before.before.before.before.before.before.loop.met c.before.before.before.before.before.before.before.before.before.before.before.before.before.before.before.before.before.before.before.before.before.before.before.loop.invariant c.before.before.before.before.before.before.before.before.before.before.before.before.before.before.before.before.before.before.before.before.before.before.loop-test.true _ _ _ _ (pass-good c.before.before.before.before.before.before.before.before.before.before.before.before.before.before.before.before.before.before.before.before.before.before.before.before.before.before.before.before.before.args.bytes.now c.before.before.before.before.before.before.before.before.before.before.before.before.before.before.before.before.before.before.before.before.before.before.before.loop.at c.before.before.before.before.before.before.before.before.before.before.before.before.before.before.before.before.before.before.before.before.before.before.before.loop.left c.before.before.before.before.before.before.before.before.before.before.before.before.before.before.before.before.before.before.before.before.before.before.before.loop.many c.before.before.before.before.before.before.before.before.before.before.before.before.before.before.before.before.before.before.before.before.pass-node.result _ c.before.before.before.before.before.before.before.before.before.before.before.before.before.before.before.before.before.before.before.before.pass-node.ensures _ _ _ c.before.before.before.before.before.before.before.before.before.before.before.before.before.before.before.before.before.before.children.given.1), children-few c.before.before.before.before.before.before.before.before.before.before.before.before.before.before.before.before.before.before.before.before.before.before.before.before.before.before.before.before.before.args.bytes.now c.before.before.before.before.before.before.before.before.before.before.before.before.before.before.before.before.before.before.before.before.before.before.before.before.before.before.before.before.before.args.key (cabinet c.before.before.before.before.before.before.before.before.before.before.before.before.before.before.before.before.before.before.before.before.before.before.before.loop.upper c.before.before.before.before.before.before.before.before.before.before.before.before.before.before.before.before.before.before.before.before.before.before.before.loop.lower c.before.before.before.before.before.before.before.before.before.before.before.before.before.before.before.before.before.before.before.before.before.before.before.loop.older c.before.before.before.before.before.before.before.before.before.before.before.before.before.before.before.before.before.before.before.before.before.before.before.loop.latest) c.before.before.before.before.before.before.before.before.before.before.before.before.before.before.before.before.before.before.before.before.before.before.before.loop.due c.before.before.before.before.before.before.before.before.before.before.before.before.before.before.before.before.before.before.before.before.before.before.before.loop.ups c.before.before.before.before.before.before.before.before.before.before.before.before.before.before.before.before.before.before.before.before.before.before.before.loop.many c.before.before.before.before.before.before.before.before.before.before.before.before.before.before.before.before.before.before.before.before.before.before.before.loop.left c.before.before.before.before.before.before.before.before.before.before.before.before.before.before.before.before.before.before.before.before.before.before.before.loop.at c.before.before.before.before.before.before.before.before.before.before.before.before.before.before.before.before.before.before.before.before.before.before.before.loop.links c.before.before.before.before.before.before.before.before.before.before.before.before.before.before.before.before.before.before.before.before.before.before.before.loop.met c.before.before.before.before.before.before.before.before.before.before.before.before.before.before.before.before.before.before.before.before.before.before.before.loop.invariant c.before.before.before.before.before.before.before.before.before.before.before.before.before.before.before.before.before.before.before.before.before.before.loop-test.true _ _ _ _ (pass-good c.before.before.before.before.before.before.before.before.before.before.before.before.before.before.before.before.before.before.before.before.before.before.before.before.before.before.before.before.before.args.bytes.now c.before.before.before.before.before.before.before.before.before.before.before.before.before.before.before.before.before.before.before.before.before.before.before.loop.at c.before.before.before.before.before.before.before.before.before.before.before.before.before.before.before.before.before.before.before.before.before.before.before.loop.left c.before.before.before.before.before.before.before.before.before.before.before.before.before.before.before.before.before.before.before.before.before.before.before.loop.many c.before.before.before.before.before.before.before.before.before.before.before.before.before.before.before.before.before.before.before.before.pass-node.result _ c.before.before.before.before.before.before.before.before.before.before.before.before.before.before.before.before.before.before.before.before.pass-node.ensures _ _ _ c.before.before.before.before.before.before.before.before.before.before.before.before.before.before.before.before.before.before.children.given.1))
+push-requires c κs = (c.before.before.before.before.before.before.before.before.before.before.before.before.before.before.before.before.before.before.before.before.before.before.loop-test.true, stack_room c.before.before.before.before.before.before.before.before.before.before.before.before.before.before.before.before.before.before.before.before.before.before.before.before.before.before.before.before.before.args.bytes.now c.before.before.before.before.before.before.before.before.before.before.before.before.before.before.before.before.before.before.before.before.before.before.before.before.before.before.before.before.before.args.key (cabinet c.before.before.before.before.before.before.before.before.before.before.before.before.before.before.before.before.before.before.before.before.before.before.before.loop.upper c.before.before.before.before.before.before.before.before.before.before.before.before.before.before.before.before.before.before.before.before.before.before.before.loop.lower c.before.before.before.before.before.before.before.before.before.before.before.before.before.before.before.before.before.before.before.before.before.before.before.loop.older c.before.before.before.before.before.before.before.before.before.before.before.before.before.before.before.before.before.before.before.before.before.before.before.loop.latest) c.before.before.before.before.before.before.before.before.before.before.before.before.before.before.before.before.before.before.before.before.before.before.before.loop.due c.before.before.before.before.before.before.before.before.before.before.before.before.before.before.before.before.before.before.before.before.before.before.before.loop.ups c.before.before.before.before.before.before.before.before.before.before.before.before.before.before.before.before.before.before.before.before.before.before.before.loop.many c.before.before.before.before.before.before.before.before.before.before.before.before.before.before.before.before.before.before.before.before.before.before.before.loop.left c.before.before.before.before.before.before.before.before.before.before.before.before.before.before.before.before.before.before.before.before.before.before.before.loop.at c.before.before.before.before.before.before.before.before.before.before.before.before.before.before.before.before.before.before.before.before.before.before.before.loop.links c.before.before.before.before.before.before.before.before.before.before.before.before.before.before.before.before.before.before.before.before.before.before.before.loop.met c.before.before.before.before.before.before.before.before.before.before.before.before.before.before.before.before.before.before.before.before.before.before.before.loop.invariant c.before.before.before.before.before.before.before.before.before.before.before.before.before.before.before.before.before.before.before.before.before.before.loop-test.true _ _ _ _ (pass_good c.before.before.before.before.before.before.before.before.before.before.before.before.before.before.before.before.before.before.before.before.before.before.before.before.before.before.before.before.before.args.bytes.now c.before.before.before.before.before.before.before.before.before.before.before.before.before.before.before.before.before.before.before.before.before.before.before.loop.at c.before.before.before.before.before.before.before.before.before.before.before.before.before.before.before.before.before.before.before.before.before.before.before.loop.left c.before.before.before.before.before.before.before.before.before.before.before.before.before.before.before.before.before.before.before.before.before.before.before.loop.many c.before.before.before.before.before.before.before.before.before.before.before.before.before.before.before.before.before.before.before.before.pass-node.result _ c.before.before.before.before.before.before.before.before.before.before.before.before.before.before.before.before.before.before.before.before.pass-node.ensures _ _ _ c.before.before.before.before.before.before.before.before.before.before.before.before.before.before.before.before.before.before.children.given.1), children_few c.before.before.before.before.before.before.before.before.before.before.before.before.before.before.before.before.before.before.before.before.before.before.before.before.before.before.before.before.before.args.bytes.now c.before.before.before.before.before.before.before.before.before.before.before.before.before.before.before.before.before.before.before.before.before.before.before.before.before.before.before.before.before.args.key (cabinet c.before.before.before.before.before.before.before.before.before.before.before.before.before.before.before.before.before.before.before.before.before.before.before.loop.upper c.before.before.before.before.before.before.before.before.before.before.before.before.before.before.before.before.before.before.before.before.before.before.before.loop.lower c.before.before.before.before.before.before.before.before.before.before.before.before.before.before.before.before.before.before.before.before.before.before.before.loop.older c.before.before.before.before.before.before.before.before.before.before.before.before.before.before.before.before.before.before.before.before.before.before.before.loop.latest) c.before.before.before.before.before.before.before.before.before.before.before.before.before.before.before.before.before.before.before.before.before.before.before.loop.due c.before.before.before.before.before.before.before.before.before.before.before.before.before.before.before.before.before.before.before.before.before.before.before.loop.ups c.before.before.before.before.before.before.before.before.before.before.before.before.before.before.before.before.before.before.before.before.before.before.before.loop.many c.before.before.before.before.before.before.before.before.before.before.before.before.before.before.before.before.before.before.before.before.before.before.before.loop.left c.before.before.before.before.before.before.before.before.before.before.before.before.before.before.before.before.before.before.before.before.before.before.before.loop.at c.before.before.before.before.before.before.before.before.before.before.before.before.before.before.before.before.before.before.before.before.before.before.before.loop.links c.before.before.before.before.before.before.before.before.before.before.before.before.before.before.before.before.before.before.before.before.before.before.before.loop.met c.before.before.before.before.before.before.before.before.before.before.before.before.before.before.before.before.before.before.before.before.before.before.before.loop.invariant c.before.before.before.before.before.before.before.before.before.before.before.before.before.before.before.before.before.before.before.before.before.before.loop-test.true _ _ _ _ (pass_good c.before.before.before.before.before.before.before.before.before.before.before.before.before.before.before.before.before.before.before.before.before.before.before.before.before.before.before.before.before.args.bytes.now c.before.before.before.before.before.before.before.before.before.before.before.before.before.before.before.before.before.before.before.before.before.before.before.loop.at c.before.before.before.before.before.before.before.before.before.before.before.before.before.before.before.before.before.before.before.before.before.before.before.loop.left c.before.before.before.before.before.before.before.before.before.before.before.before.before.before.before.before.before.before.before.before.before.before.before.loop.many c.before.before.before.before.before.before.before.before.before.before.before.before.before.before.before.before.before.before.before.before.pass-node.result _ c.before.before.before.before.before.before.before.before.before.before.before.before.before.before.before.before.before.before.before.before.pass-node.ensures _ _ _ c.before.before.before.before.before.before.before.before.before.before.before.before.before.before.before.before.before.before.children.given.1))
 
 sub-left : tie.Need-overflow-sub-left invariant-loop decreases-loop
-sub-left c = omega (arith, (pass-good c.before.before.before.before.before.before.before.before.before.before.before.before.before.before.before.before.before.before.before.before.before.before.before.before.before.before.before.before.before.before.before.args.bytes.now c.before.before.before.before.before.before.before.before.before.before.before.before.before.before.before.before.before.before.before.before.before.before.before.before.before.loop.at c.before.before.before.before.before.before.before.before.before.before.before.before.before.before.before.before.before.before.before.before.before.before.before.before.before.loop.left c.before.before.before.before.before.before.before.before.before.before.before.before.before.before.before.before.before.before.before.before.before.before.before.before.before.loop.many c.before.before.before.before.before.before.before.before.before.before.before.before.before.before.before.before.before.before.before.before.before.before.pass-node.result _ c.before.before.before.before.before.before.before.before.before.before.before.before.before.before.before.before.before.before.before.before.before.before.pass-node.ensures _ _ _ c.before.before.before.before.before.before.before.before.before.before.before.before.before.before.before.before.before.before.before.before.children.given.1).nodes)
+sub-left c = omega (arith, (pass_good c.before.before.before.before.before.before.before.before.before.before.before.before.before.before.before.before.before.before.before.before.before.before.before.before.before.before.before.before.before.before.before.args.bytes.now c.before.before.before.before.before.before.before.before.before.before.before.before.before.before.before.before.before.before.before.before.before.before.before.before.before.loop.at c.before.before.before.before.before.before.before.before.before.before.before.before.before.before.before.before.before.before.before.before.before.before.before.before.before.loop.left c.before.before.before.before.before.before.before.before.before.before.before.before.before.before.before.before.before.before.before.before.before.before.before.before.before.loop.many c.before.before.before.before.before.before.before.before.before.before.before.before.before.before.before.before.before.before.before.before.before.before.pass-node.result _ c.before.before.before.before.before.before.before.before.before.before.before.before.before.before.before.before.before.before.before.before.before.before.pass-node.ensures _ _ _ c.before.before.before.before.before.before.before.before.before.before.before.before.before.before.before.before.before.before.before.before.children.given.1).nodes)
 
 loop-less : tie.Need-loop-smaller invariant-loop decreases-loop
-loop-less c = omega (arith, (pass-good c.before.before.before.before.before.before.before.before.before.before.before.before.before.before.before.before.before.before.before.before.before.before.before.before.before.before.before.before.before.before.before.args.bytes.now c.before.before.before.before.before.before.before.before.before.before.before.before.before.before.before.before.before.before.before.before.before.before.before.before.before.loop.at c.before.before.before.before.before.before.before.before.before.before.before.before.before.before.before.before.before.before.before.before.before.before.before.before.before.loop.left c.before.before.before.before.before.before.before.before.before.before.before.before.before.before.before.before.before.before.before.before.before.before.before.before.before.loop.many c.before.before.before.before.before.before.before.before.before.before.before.before.before.before.before.before.before.before.before.before.before.before.pass-node.result _ c.before.before.before.before.before.before.before.before.before.before.before.before.before.before.before.before.before.before.before.before.before.before.pass-node.ensures _ _ _ c.before.before.before.before.before.before.before.before.before.before.before.before.before.before.before.before.before.before.before.before.children.given.1).nodes)
+loop-less c = omega (arith, (pass_good c.before.before.before.before.before.before.before.before.before.before.before.before.before.before.before.before.before.before.before.before.before.before.before.before.before.before.before.before.before.before.before.args.bytes.now c.before.before.before.before.before.before.before.before.before.before.before.before.before.before.before.before.before.before.before.before.before.before.before.before.before.loop.at c.before.before.before.before.before.before.before.before.before.before.before.before.before.before.before.before.before.before.before.before.before.before.before.before.before.loop.left c.before.before.before.before.before.before.before.before.before.before.before.before.before.before.before.before.before.before.before.before.before.before.before.before.before.loop.many c.before.before.before.before.before.before.before.before.before.before.before.before.before.before.before.before.before.before.before.before.before.before.pass-node.result _ c.before.before.before.before.before.before.before.before.before.before.before.before.before.before.before.before.before.before.before.before.before.before.pass-node.ensures _ _ _ c.before.before.before.before.before.before.before.before.before.before.before.before.before.before.before.before.before.before.before.before.children.given.1).nodes)
 
 loop-again : tie.Need-loop-preserved invariant-loop decreases-loop
-loop-again c = onward c.before.before.before.before.before.before.before.before.before.before.before.before.before.before.before.before.before.before.before.before.before.before.before.before.before.before.before.before.before.before.before.args.bytes.now c.before.before.before.before.before.before.before.before.before.before.before.before.before.before.before.before.before.before.before.before.before.before.before.before.before.before.before.before.before.before.before.args.key (cabinet c.before.before.before.before.before.before.before.before.before.before.before.before.before.before.before.before.before.before.before.before.before.before.before.before.before.loop.upper c.before.before.before.before.before.before.before.before.before.before.before.before.before.before.before.before.before.before.before.before.before.before.before.before.before.loop.lower c.before.before.before.before.before.before.before.before.before.before.before.before.before.before.before.before.before.before.before.before.before.before.before.before.before.loop.older c.before.before.before.before.before.before.before.before.before.before.before.before.before.before.before.before.before.before.before.before.before.before.before.before.before.loop.latest) c.before.before.before.before.before.before.before.before.before.before.before.before.before.before.before.before.before.before.before.before.before.before.before.before.before.loop.due c.before.before.before.before.before.before.before.before.before.before.before.before.before.before.before.before.before.before.before.before.before.before.before.before.before.loop.ups c.before.before.before.before.before.before.before.before.before.before.before.before.before.before.before.before.before.before.before.before.before.before.before.before.before.loop.many c.before.before.before.before.before.before.before.before.before.before.before.before.before.before.before.before.before.before.before.before.before.before.before.before.before.loop.left c.before.before.before.before.before.before.before.before.before.before.before.before.before.before.before.before.before.before.before.before.before.before.before.before.before.loop.at c.before.before.before.before.before.before.before.before.before.before.before.before.before.before.before.before.before.before.before.before.before.before.before.before.before.loop.links c.before.before.before.before.before.before.before.before.before.before.before.before.before.before.before.before.before.before.before.before.before.before.before.before.before.loop.met c.before.before.before.before.before.before.before.before.before.before.before.before.before.before.before.before.before.before.before.before.before.before.before.before.before.loop.invariant c.before.before.before.before.before.before.before.before.before.before.before.before.before.before.before.before.before.before.before.before.before.before.before.before.loop-test.true _ _ _ _ (pass-good c.before.before.before.before.before.before.before.before.before.before.before.before.before.before.before.before.before.before.before.before.before.before.before.before.before.before.before.before.before.before.before.args.bytes.now c.before.before.before.before.before.before.before.before.before.before.before.before.before.before.before.before.before.before.before.before.before.before.before.before.before.loop.at c.before.before.before.before.before.before.before.before.before.before.before.before.before.before.before.before.before.before.before.before.before.before.before.before.before.loop.left c.before.before.before.before.before.before.before.before.before.before.before.before.before.before.before.before.before.before.before.before.before.before.before.before.before.loop.many c.before.before.before.before.before.before.before.before.before.before.before.before.before.before.before.before.before.before.before.before.before.before.pass-node.result _ c.before.before.before.before.before.before.before.before.before.before.before.before.before.before.before.before.before.before.before.before.before.before.pass-node.ensures _ _ _ c.before.before.before.before.before.before.before.before.before.before.before.before.before.before.before.before.before.before.before.before.children.given.1) c.before.before.before.before.before.before.before.before.before.before.before.before.before.before.before.before.before.before.before.before.before.before.before.before.before.before.before.before.before.before.before.requires.0 c.before.before.before.before.before.before.before.before.before.before.before.before.before.before.before.before.before.before.key-at.result c.before.before.before.before.before.before.before.before.before.before.before.before.before.before.before.before.before.before.key-at.ensures _ refl _ _ c.before.before.before.before.before.before.before.before.before.before.before.before.before.file.ensures c.before.before.before.before.met_by.result c.before.before.before.before.met_by.ensures c.before.before.below.result c.before.before.below.ensures _ _ c.before.push.ensures
+loop-again c = onward c.before.before.before.before.before.before.before.before.before.before.before.before.before.before.before.before.before.before.before.before.before.before.before.before.before.before.before.before.before.before.before.args.bytes.now c.before.before.before.before.before.before.before.before.before.before.before.before.before.before.before.before.before.before.before.before.before.before.before.before.before.before.before.before.before.before.before.args.key (cabinet c.before.before.before.before.before.before.before.before.before.before.before.before.before.before.before.before.before.before.before.before.before.before.before.before.before.loop.upper c.before.before.before.before.before.before.before.before.before.before.before.before.before.before.before.before.before.before.before.before.before.before.before.before.before.loop.lower c.before.before.before.before.before.before.before.before.before.before.before.before.before.before.before.before.before.before.before.before.before.before.before.before.before.loop.older c.before.before.before.before.before.before.before.before.before.before.before.before.before.before.before.before.before.before.before.before.before.before.before.before.before.loop.latest) c.before.before.before.before.before.before.before.before.before.before.before.before.before.before.before.before.before.before.before.before.before.before.before.before.before.loop.due c.before.before.before.before.before.before.before.before.before.before.before.before.before.before.before.before.before.before.before.before.before.before.before.before.before.loop.ups c.before.before.before.before.before.before.before.before.before.before.before.before.before.before.before.before.before.before.before.before.before.before.before.before.before.loop.many c.before.before.before.before.before.before.before.before.before.before.before.before.before.before.before.before.before.before.before.before.before.before.before.before.before.loop.left c.before.before.before.before.before.before.before.before.before.before.before.before.before.before.before.before.before.before.before.before.before.before.before.before.before.loop.at c.before.before.before.before.before.before.before.before.before.before.before.before.before.before.before.before.before.before.before.before.before.before.before.before.before.loop.links c.before.before.before.before.before.before.before.before.before.before.before.before.before.before.before.before.before.before.before.before.before.before.before.before.before.loop.met c.before.before.before.before.before.before.before.before.before.before.before.before.before.before.before.before.before.before.before.before.before.before.before.before.before.loop.invariant c.before.before.before.before.before.before.before.before.before.before.before.before.before.before.before.before.before.before.before.before.before.before.before.before.loop-test.true _ _ _ _ (pass_good c.before.before.before.before.before.before.before.before.before.before.before.before.before.before.before.before.before.before.before.before.before.before.before.before.before.before.before.before.before.before.before.args.bytes.now c.before.before.before.before.before.before.before.before.before.before.before.before.before.before.before.before.before.before.before.before.before.before.before.before.before.loop.at c.before.before.before.before.before.before.before.before.before.before.before.before.before.before.before.before.before.before.before.before.before.before.before.before.before.loop.left c.before.before.before.before.before.before.before.before.before.before.before.before.before.before.before.before.before.before.before.before.before.before.before.before.before.loop.many c.before.before.before.before.before.before.before.before.before.before.before.before.before.before.before.before.before.before.before.before.before.before.pass-node.result _ c.before.before.before.before.before.before.before.before.before.before.before.before.before.before.before.before.before.before.before.before.before.before.pass-node.ensures _ _ _ c.before.before.before.before.before.before.before.before.before.before.before.before.before.before.before.before.before.before.before.before.children.given.1) c.before.before.before.before.before.before.before.before.before.before.before.before.before.before.before.before.before.before.before.before.before.before.before.before.before.before.before.before.before.before.before.requires.0 c.before.before.before.before.before.before.before.before.before.before.before.before.before.before.before.before.before.before.key-at.result c.before.before.before.before.before.before.before.before.before.before.before.before.before.before.before.before.before.before.key-at.ensures _ refl _ _ c.before.before.before.before.before.before.before.before.before.before.before.before.before.file.ensures c.before.before.before.before.met_by.result c.before.before.before.before.met_by.ensures c.before.before.below.result c.before.before.below.ensures _ _ c.before.push.ensures
 
 same-length-5 : tie.Need-same-length-5 invariant-loop decreases-loop
 same-length-5 c = omega (arith, c.before.before.loop.invariant.holding.filed.sized.upper, c.before.before.before.before.before.before.before.before.requires.1.sized.upper)
@@ -108,7 +108,7 @@ same-length-12 : tie.Need-same-length-12 invariant-loop decreases-loop
 same-length-12 c = omega (arith, c.before.before.before.loop.invariant.holding.filed.sized.latest, c.before.before.before.before.before.before.before.before.before.requires.1.sized.latest)
 
 returns-3 : tie.Need-returns-3 invariant-loop decreases-loop
-returns-3 c = (subst (Stands c.before.before.before.before.before.before.before.before.before.args.bytes.now c.before.before.before.before.before.before.before.before.before.args.key) c.if2.true (told c.before.before.before.before.before.before.before.before.before.args.bytes.now c.before.before.before.before.before.before.before.before.before.args.key (cabinet c.before.before.before.loop.upper c.before.before.before.loop.lower c.before.before.before.loop.older c.before.before.before.loop.latest) c.before.before.before.loop.due c.before.before.before.loop.ups c.before.before.before.loop.many c.before.before.before.loop.left c.before.before.before.loop.at c.before.before.before.loop.links c.before.before.before.loop.met c.before.before.before.loop.invariant (omega (arith, c.before.before.loop-test.false)) c.before.if1.false (slice-bytes c.before.before.before.before.before.before.before.before.before.args.bytes.now (λ i. omega (arith, c.before.before.before.before.before.before.before.before.shared-slice-known.given i))) c.before.before.before.before.before.before.before.before.before.requires.0), all-filed c.before.before.before.before.before.before.before.before.before.args.bytes.now c.before.before.before.before.before.before.before.before.before.args.key (cabinet c.before.before.before.loop.upper c.before.before.before.loop.lower c.before.before.before.loop.older c.before.before.before.loop.latest) c.before.before.before.loop.due c.before.before.before.loop.ups c.before.before.before.loop.many c.before.before.before.loop.left c.before.before.before.loop.at c.before.before.before.loop.links c.before.before.before.loop.met c.before.before.before.loop.invariant (omega (arith, c.before.before.loop-test.false)) c.before.if1.false (slice-bytes c.before.before.before.before.before.before.before.before.before.args.bytes.now (λ i. omega (arith, c.before.before.before.before.before.before.before.before.shared-slice-known.given i))), up_to c.before.before.before.before.before.before.before.before.before.args.bytes.now c.before.before.before.before.before.before.before.before.before.args.key (cabinet c.before.before.before.loop.upper c.before.before.before.loop.lower c.before.before.before.loop.older c.before.before.before.loop.latest) c.before.before.before.loop.due c.before.before.before.loop.ups c.before.before.before.loop.many c.before.before.before.loop.left c.before.before.before.loop.at c.before.before.before.loop.links c.before.before.before.loop.met c.before.before.before.loop.invariant (omega (arith, c.before.before.loop-test.false)) c.before.if1.false (slice-bytes c.before.before.before.before.before.before.before.before.before.args.bytes.now (λ i. omega (arith, c.before.before.before.before.before.before.before.before.shared-slice-known.given i))))
+returns-3 c = (subst (Stands c.before.before.before.before.before.before.before.before.before.args.bytes.now c.before.before.before.before.before.before.before.before.before.args.key) c.if2.true (told c.before.before.before.before.before.before.before.before.before.args.bytes.now c.before.before.before.before.before.before.before.before.before.args.key (cabinet c.before.before.before.loop.upper c.before.before.before.loop.lower c.before.before.before.loop.older c.before.before.before.loop.latest) c.before.before.before.loop.due c.before.before.before.loop.ups c.before.before.before.loop.many c.before.before.before.loop.left c.before.before.before.loop.at c.before.before.before.loop.links c.before.before.before.loop.met c.before.before.before.loop.invariant (omega (arith, c.before.before.loop-test.false)) c.before.if1.false (slice_bytes c.before.before.before.before.before.before.before.before.before.args.bytes.now (λ i. omega (arith, c.before.before.before.before.before.before.before.before.shared-slice-known.given i))) c.before.before.before.before.before.before.before.before.before.requires.0), all_filed c.before.before.before.before.before.before.before.before.before.args.bytes.now c.before.before.before.before.before.before.before.before.before.args.key (cabinet c.before.before.before.loop.upper c.before.before.before.loop.lower c.before.before.before.loop.older c.before.before.before.loop.latest) c.before.before.before.loop.due c.before.before.before.loop.ups c.before.before.before.loop.many c.before.before.before.loop.left c.before.before.before.loop.at c.before.before.before.loop.links c.before.before.before.loop.met c.before.before.before.loop.invariant (omega (arith, c.before.before.loop-test.false)) c.before.if1.false (slice_bytes c.before.before.before.before.before.before.before.before.before.args.bytes.now (λ i. omega (arith, c.before.before.before.before.before.before.before.before.shared-slice-known.given i))), up_to c.before.before.before.before.before.before.before.before.before.args.bytes.now c.before.before.before.before.before.before.before.before.before.args.key (cabinet c.before.before.before.loop.upper c.before.before.before.loop.lower c.before.before.before.loop.older c.before.before.before.loop.latest) c.before.before.before.loop.due c.before.before.before.loop.ups c.before.before.before.loop.many c.before.before.before.loop.left c.before.before.before.loop.at c.before.before.before.loop.links c.before.before.before.loop.met c.before.before.before.loop.invariant (omega (arith, c.before.before.loop-test.false)) c.before.if1.false (slice_bytes c.before.before.before.before.before.before.before.before.before.args.bytes.now (λ i. omega (arith, c.before.before.before.before.before.before.before.before.shared-slice-known.given i))))
 
 same-length-13 : tie.Need-same-length-13 invariant-loop decreases-loop
 same-length-13 c = omega (arith, c.before.before.before.loop.invariant.holding.filed.sized.upper, c.before.before.before.before.before.before.before.before.before.requires.1.sized.upper)
@@ -123,7 +123,7 @@ same-length-16 : tie.Need-same-length-16 invariant-loop decreases-loop
 same-length-16 c = omega (arith, c.before.before.before.loop.invariant.holding.filed.sized.latest, c.before.before.before.before.before.before.before.before.before.requires.1.sized.latest)
 
 returns-4 : tie.Need-returns-4 invariant-loop decreases-loop
-returns-4 c = subst (Stands c.before.before.before.before.before.before.before.before.before.args.bytes.now c.before.before.before.before.before.before.before.before.before.args.key) c.if2.false (told c.before.before.before.before.before.before.before.before.before.args.bytes.now c.before.before.before.before.before.before.before.before.before.args.key (cabinet c.before.before.before.loop.upper c.before.before.before.loop.lower c.before.before.before.loop.older c.before.before.before.loop.latest) c.before.before.before.loop.due c.before.before.before.loop.ups c.before.before.before.loop.many c.before.before.before.loop.left c.before.before.before.loop.at c.before.before.before.loop.links c.before.before.before.loop.met c.before.before.before.loop.invariant (omega (arith, c.before.before.loop-test.false)) c.before.if1.false (slice-bytes c.before.before.before.before.before.before.before.before.before.args.bytes.now (λ i. omega (arith, c.before.before.before.before.before.before.before.before.shared-slice-known.given i))) c.before.before.before.before.before.before.before.before.before.requires.0)
+returns-4 c = subst (Stands c.before.before.before.before.before.before.before.before.before.args.bytes.now c.before.before.before.before.before.before.before.before.before.args.key) c.if2.false (told c.before.before.before.before.before.before.before.before.before.args.bytes.now c.before.before.before.before.before.before.before.before.before.args.key (cabinet c.before.before.before.loop.upper c.before.before.before.loop.lower c.before.before.before.loop.older c.before.before.before.loop.latest) c.before.before.before.loop.due c.before.before.before.loop.ups c.before.before.before.loop.many c.before.before.before.loop.left c.before.before.before.loop.at c.before.before.before.loop.links c.before.before.before.loop.met c.before.before.before.loop.invariant (omega (arith, c.before.before.loop-test.false)) c.before.if1.false (slice_bytes c.before.before.before.before.before.before.before.before.before.args.bytes.now (λ i. omega (arith, c.before.before.before.before.before.before.before.before.shared-slice-known.given i))) c.before.before.before.before.before.before.before.before.before.requires.0)
 
 pub file-all-spec : {M : Type 1} → statement M
 file-all-spec =

@@ -1,6 +1,6 @@
 -- `over_parallel` meets its contract: each case of the two moves computes to the same case of the definition; two steps join if the test on labels holds.
 use Rattle.ccsk.specs.Decide.{co?}
-use Rattle.findings.proofs.Tests.{joined-yes, joined-no}
+use Rattle.findings.proofs.Tests.{joined_yes, joined_no}
 use borrow.Author.Rules.{rules}
 use Rattle.findings.proofs.over_parallel.Statement.{statement}
 use Rattle.findings.proofs.over_parallel.Tie as tie
@@ -21,7 +21,7 @@ complementary-requires : tie.Need-complementary-requires
 complementary-requires c κs = search rules
 
 returns : tie.Need-returns
-returns c = rw (c.before.before.before.before.before.before.left.given.1, c.before.before.before.right.given.1) (joined-yes (co? _ _) _ c.before.complementary.ensures c.if1.true)
+returns c = rw (c.before.before.before.before.before.before.left.given.1, c.before.before.before.right.given.1) (joined_yes (co? _ _) _ c.before.complementary.ensures c.if1.true)
 
 enum-told-3 : tie.Need-enum-told-3
 enum-told-3 c = search rules
@@ -36,7 +36,7 @@ returns-3 : tie.Need-returns-3
 returns-3 c = rw (c.before.before.before.left.given.1, c.enum-told2.given.1)
 
 returns-4 : tie.Need-returns-4
-returns-4 c = rw (c.before.before.before.before.before.before.left.given.1, c.before.before.before.right.given.1) (joined-no (co? _ _) _ c.before.complementary.ensures c.if1.false)
+returns-4 c = rw (c.before.before.before.before.before.before.left.given.1, c.before.before.before.right.given.1) (joined_no (co? _ _) _ c.before.complementary.ensures c.if1.false)
 
 returns-5 : tie.Need-returns-5
 returns-5 c = search rules

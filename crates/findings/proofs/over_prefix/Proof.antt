@@ -1,5 +1,5 @@
 -- `over_prefix` meets its contract: each case of the tests and the move below computes to the same case of the definition.
-use Rattle.findings.proofs.Tests.{own-over-step, over-stuck}
+use Rattle.findings.proofs.Tests.{own_over_step, over_stuck}
 use borrow.Author.Rules.{rules}
 use Rattle.findings.proofs.over_prefix.Statement.{statement}
 use Rattle.findings.proofs.over_prefix.Tie as tie
@@ -20,7 +20,7 @@ enum-known-below : tie.Need-enum-known-below
 enum-known-below c = search rules
 
 returns-4 : tie.Need-returns-4
-returns-4 c = let a = c.before.before.before.before.args in rw (c.if4.true, c.before.before.below.given.1) (own-over-step a.may a.any a.action _)
+returns-4 c = let a = c.before.before.before.before.args in rw (c.if4.true, c.before.before.below.given.1) (own_over_step a.may a.any a.action _)
 
 returns-5 : tie.Need-returns-5
 returns-5 c = rw (c.before.if4.false, c.if5.true, c.before.before.before.below.given.1)
@@ -35,7 +35,7 @@ returns-7 : tie.Need-returns-7
 returns-7 c = search rules
 
 returns-8 : tie.Need-returns-8
-returns-8 c = let a = c.before.before.args in rw c.enum-told2.given.1 (over-stuck a.chosen a.may a.done a.any a.action)
+returns-8 c = let a = c.before.before.args in rw c.enum-told2.given.1 (over_stuck a.chosen a.may a.done a.any a.action)
 
 pub over-prefix-spec : {M : Type 1} → statement M
 over-prefix-spec =

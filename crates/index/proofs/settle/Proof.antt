@@ -8,12 +8,12 @@ use Prim.Native.Nat.{ℕ, ◌-◌, ◌≤◌}
 use native.Mathlib.Omega.{arith}
 use lib.ListN.{length, length-set}
 use Rattle.ccsk.specs.Term.{Term}
-use Rattle.format.specs.Limits.{node-limit}
+use Rattle.format.specs.Limits.{node_limit}
 use Rattle.index.specs.Lines.{Noted}
 use Rattle.index.proofs.Settling.{Settling, start, onward, all_laid}
 
 abbrev invariant-loop : tie.invariant-loop
-invariant-loop n forms₀ ends₀ holds₀ i₀ end₀ held₀ forms ends holds i end held = (i ≤ node-limit) × (length forms ≡ node-limit) × (length ends ≡ node-limit) × (length holds ≡ node-limit) × ((t : Term) (A : List ℕ) → Noted t n forms₀ A holds₀ → Settling t A n forms ends holds i end held)
+invariant-loop n forms₀ ends₀ holds₀ i₀ end₀ held₀ forms ends holds i end held = (i ≤ node_limit) × (length forms ≡ node_limit) × (length ends ≡ node_limit) × (length holds ≡ node_limit) × ((t : Term) (A : List ℕ) → Noted t n forms₀ A holds₀ → Settling t A n forms ends holds i end held)
 
 abbrev decreases-loop : tie.decreases-loop
 decreases-loop n forms₀ ends₀ holds₀ i₀ end₀ held₀ forms ends holds i end held = i

@@ -1,6 +1,6 @@
 -- `weigh` meets its contract: the lowest of the conditions 3 to 6 that fails, and then whether there is a cycle.
 use native.Mathlib.Omega.{arith}
-use Rattle.judge.proofs.Steps.{blank, decided-early, may-order, decided-sound, decided-cycle}
+use Rattle.judge.proofs.Steps.{blank, decided_early, may_order, decided_sound, decided_cycle}
 use borrow.Author.Rules.{rules}
 use Rattle.judge.proofs.weigh.Statement.{statement}
 use Rattle.judge.proofs.weigh.Tie as tie
@@ -15,10 +15,10 @@ same-length-2 : tie.Need-same-length-2
 same-length-2 c = search rules
 
 returns : tie.Need-returns
-returns c = decided-early c.before.before.before.before.before.before.before.before.before.before.before.before.before.before.before.before.before.args.keys.now c.before.before.before.before.before.before.before.before.before.before.before.before.before.before.before.before.before.args.actions.now c.before.before.before.before.before.before.before.before.before.before.before.before.before.before.before.before.before.args.ends.now c.before.before.before.before.before.before.before.before.before.before.before.before.before.before.before.before.before.args.scopes.now c.before.before.before.before.before.before.before.before.before.before.before.before.before.before.before.before.before.args.ups.now c.before.before.before.before.before.before.before.before.before.before.before.before.before.before.before.before.before.args.first.now c.before.before.before.before.before.before.before.before.before.before.before.before.before.before.before.before.before.args.second.now _ _ c.before.before.before.before.before.before.before.before.before.before.before.before.before.before.before.before.before.requires.0 c.before.before.before.before.before.before.before.before.before.before.before.before.before.before.before.before.before.requires.1 c.before.before.before.before.before.pairing.new.1.1.1.1.0 c.before.before.before.before.before.pairing.new.1.1.1.1.1.0 (search rules) c.before.before.before.before.before.pairing.result c.before.before.before.before.before.pairing.ensures c.if1.true
+returns c = decided_early c.before.before.before.before.before.before.before.before.before.before.before.before.before.before.before.before.before.args.keys.now c.before.before.before.before.before.before.before.before.before.before.before.before.before.before.before.before.before.args.actions.now c.before.before.before.before.before.before.before.before.before.before.before.before.before.before.before.before.before.args.ends.now c.before.before.before.before.before.before.before.before.before.before.before.before.before.before.before.before.before.args.scopes.now c.before.before.before.before.before.before.before.before.before.before.before.before.before.before.before.before.before.args.ups.now c.before.before.before.before.before.before.before.before.before.before.before.before.before.before.before.before.before.args.first.now c.before.before.before.before.before.before.before.before.before.before.before.before.before.before.before.before.before.args.second.now _ _ c.before.before.before.before.before.before.before.before.before.before.before.before.before.before.before.before.before.requires.0 c.before.before.before.before.before.before.before.before.before.before.before.before.before.before.before.before.before.requires.1 c.before.before.before.before.before.pairing.new.1.1.1.1.0 c.before.before.before.before.before.pairing.new.1.1.1.1.1.0 (search rules) c.before.before.before.before.before.pairing.result c.before.before.before.before.before.pairing.ensures c.if1.true
 
 ordering-requires : tie.Need-ordering-requires
-ordering-requires c κs = (may-order c.before.before.before.before.before.before.before.before.before.before.before.before.before.before.before.before.before.before.before.before.before.args.keys.now c.before.before.before.before.before.before.before.before.before.before.before.before.before.before.before.before.before.before.before.before.before.args.actions.now c.before.before.before.before.before.before.before.before.before.before.before.before.before.before.before.before.before.before.before.before.before.args.ends.now c.before.before.before.before.before.before.before.before.before.before.before.before.before.before.before.before.before.before.before.before.before.args.scopes.now c.before.before.before.before.before.before.before.before.before.before.before.before.before.before.before.before.before.before.before.before.before.args.ups.now c.before.before.before.before.before.before.before.before.before.before.before.before.before.before.before.before.before.before.before.before.before.args.first.now c.before.before.before.before.before.before.before.before.before.before.before.before.before.before.before.before.before.before.before.before.before.args.second.now _ _ c.before.before.before.before.before.before.before.before.before.before.before.before.before.before.before.before.before.before.before.before.before.requires.0 c.before.before.before.before.before.before.before.before.before.before.before.before.before.before.before.before.before.before.before.before.before.requires.1 c.before.before.before.before.before.before.before.before.before.pairing.new.1.1.1.1.0 c.before.before.before.before.before.before.before.before.before.pairing.new.1.1.1.1.1.0 (search rules) c.before.before.before.before.before.before.before.before.before.pairing.result c.before.before.before.before.before.before.before.before.before.pairing.ensures (omega (arith, c.before.before.before.before.if1.false)), (search rules, search rules))
+ordering-requires c κs = (may_order c.before.before.before.before.before.before.before.before.before.before.before.before.before.before.before.before.before.before.before.before.before.args.keys.now c.before.before.before.before.before.before.before.before.before.before.before.before.before.before.before.before.before.before.before.before.before.args.actions.now c.before.before.before.before.before.before.before.before.before.before.before.before.before.before.before.before.before.before.before.before.before.args.ends.now c.before.before.before.before.before.before.before.before.before.before.before.before.before.before.before.before.before.before.before.before.before.args.scopes.now c.before.before.before.before.before.before.before.before.before.before.before.before.before.before.before.before.before.before.before.before.before.args.ups.now c.before.before.before.before.before.before.before.before.before.before.before.before.before.before.before.before.before.before.before.before.before.args.first.now c.before.before.before.before.before.before.before.before.before.before.before.before.before.before.before.before.before.before.before.before.before.args.second.now _ _ c.before.before.before.before.before.before.before.before.before.before.before.before.before.before.before.before.before.before.before.before.before.requires.0 c.before.before.before.before.before.before.before.before.before.before.before.before.before.before.before.before.before.before.before.before.before.requires.1 c.before.before.before.before.before.before.before.before.before.pairing.new.1.1.1.1.0 c.before.before.before.before.before.before.before.before.before.pairing.new.1.1.1.1.1.0 (search rules) c.before.before.before.before.before.before.before.before.before.pairing.result c.before.before.before.before.before.before.before.before.before.pairing.ensures (omega (arith, c.before.before.before.before.if1.false)), (search rules, search rules))
 
 same-length-3 : tie.Need-same-length-3
 same-length-3 c = search rules
@@ -33,7 +33,7 @@ same-length-6 : tie.Need-same-length-6
 same-length-6 c = search rules
 
 returns-2 : tie.Need-returns-2
-returns-2 c = decided-sound c.before.before.before.before.before.before.before.before.before.before.before.before.before.before.before.before.before.before.before.before.before.before.before.before.before.before.before.before.before.before.before.args.keys.now c.before.before.before.before.before.before.before.before.before.before.before.before.before.before.before.before.before.before.before.before.before.before.before.before.before.before.before.before.before.before.before.args.actions.now c.before.before.before.before.before.before.before.before.before.before.before.before.before.before.before.before.before.before.before.before.before.before.before.before.before.before.before.before.before.before.before.args.ends.now c.before.before.before.before.before.before.before.before.before.before.before.before.before.before.before.before.before.before.before.before.before.before.before.before.before.before.before.before.before.before.before.args.scopes.now c.before.before.before.before.before.before.before.before.before.before.before.before.before.before.before.before.before.before.before.before.before.before.before.before.before.before.before.before.before.before.before.args.ups.now c.before.before.before.before.before.before.before.before.before.before.before.before.before.before.before.before.before.before.before.before.before.before.before.before.before.before.before.before.before.before.before.args.first.now c.before.before.before.before.before.before.before.before.before.before.before.before.before.before.before.before.before.before.before.before.before.before.before.before.before.before.before.before.before.before.before.args.second.now _ _ c.before.before.before.before.before.before.before.before.before.before.before.before.before.before.before.before.before.before.before.before.before.before.before.before.before.before.before.before.before.before.before.requires.0 c.before.before.before.before.before.before.before.before.before.before.before.before.before.before.before.before.before.before.before.before.before.before.before.before.before.before.before.before.before.before.before.requires.1 c.before.before.before.before.before.before.before.before.before.before.before.before.before.before.before.before.before.before.before.pairing.new.1.1.1.1.0 c.before.before.before.before.before.before.before.before.before.before.before.before.before.before.before.before.before.before.before.pairing.new.1.1.1.1.1.0 (search rules) c.before.before.before.before.before.before.before.before.before.before.before.before.before.before.before.before.before.before.before.pairing.result c.before.before.before.before.before.before.before.before.before.before.before.before.before.before.before.before.before.before.before.pairing.ensures (omega (arith, c.before.before.before.before.before.before.before.before.before.before.before.before.before.before.if1.false)) c.before.before.before.before.before.before.before.before.before.ordering.new.1.0 c.before.before.before.before.before.before.before.before.before.ordering.new.1.1.0 c.before.before.before.before.before.before.before.before.before.ordering.result c.before.before.before.before.before.before.before.before.before.ordering.ensures c.if2.true
+returns-2 c = decided_sound c.before.before.before.before.before.before.before.before.before.before.before.before.before.before.before.before.before.before.before.before.before.before.before.before.before.before.before.before.before.before.before.args.keys.now c.before.before.before.before.before.before.before.before.before.before.before.before.before.before.before.before.before.before.before.before.before.before.before.before.before.before.before.before.before.before.before.args.actions.now c.before.before.before.before.before.before.before.before.before.before.before.before.before.before.before.before.before.before.before.before.before.before.before.before.before.before.before.before.before.before.before.args.ends.now c.before.before.before.before.before.before.before.before.before.before.before.before.before.before.before.before.before.before.before.before.before.before.before.before.before.before.before.before.before.before.before.args.scopes.now c.before.before.before.before.before.before.before.before.before.before.before.before.before.before.before.before.before.before.before.before.before.before.before.before.before.before.before.before.before.before.before.args.ups.now c.before.before.before.before.before.before.before.before.before.before.before.before.before.before.before.before.before.before.before.before.before.before.before.before.before.before.before.before.before.before.before.args.first.now c.before.before.before.before.before.before.before.before.before.before.before.before.before.before.before.before.before.before.before.before.before.before.before.before.before.before.before.before.before.before.before.args.second.now _ _ c.before.before.before.before.before.before.before.before.before.before.before.before.before.before.before.before.before.before.before.before.before.before.before.before.before.before.before.before.before.before.before.requires.0 c.before.before.before.before.before.before.before.before.before.before.before.before.before.before.before.before.before.before.before.before.before.before.before.before.before.before.before.before.before.before.before.requires.1 c.before.before.before.before.before.before.before.before.before.before.before.before.before.before.before.before.before.before.before.pairing.new.1.1.1.1.0 c.before.before.before.before.before.before.before.before.before.before.before.before.before.before.before.before.before.before.before.pairing.new.1.1.1.1.1.0 (search rules) c.before.before.before.before.before.before.before.before.before.before.before.before.before.before.before.before.before.before.before.pairing.result c.before.before.before.before.before.before.before.before.before.before.before.before.before.before.before.before.before.before.before.pairing.ensures (omega (arith, c.before.before.before.before.before.before.before.before.before.before.before.before.before.before.if1.false)) c.before.before.before.before.before.before.before.before.before.ordering.new.1.0 c.before.before.before.before.before.before.before.before.before.ordering.new.1.1.0 c.before.before.before.before.before.before.before.before.before.ordering.result c.before.before.before.before.before.before.before.before.before.ordering.ensures c.if2.true
 
 same-length-7 : tie.Need-same-length-7
 same-length-7 c = search rules
@@ -48,7 +48,7 @@ same-length-10 : tie.Need-same-length-10
 same-length-10 c = search rules
 
 returns-3 : tie.Need-returns-3
-returns-3 c = decided-cycle c.before.before.before.before.before.before.before.before.before.before.before.before.before.before.before.before.before.before.before.before.before.before.before.before.before.before.before.before.before.before.before.args.keys.now c.before.before.before.before.before.before.before.before.before.before.before.before.before.before.before.before.before.before.before.before.before.before.before.before.before.before.before.before.before.before.before.args.actions.now c.before.before.before.before.before.before.before.before.before.before.before.before.before.before.before.before.before.before.before.before.before.before.before.before.before.before.before.before.before.before.before.args.ends.now c.before.before.before.before.before.before.before.before.before.before.before.before.before.before.before.before.before.before.before.before.before.before.before.before.before.before.before.before.before.before.before.args.scopes.now c.before.before.before.before.before.before.before.before.before.before.before.before.before.before.before.before.before.before.before.before.before.before.before.before.before.before.before.before.before.before.before.args.ups.now c.before.before.before.before.before.before.before.before.before.before.before.before.before.before.before.before.before.before.before.before.before.before.before.before.before.before.before.before.before.before.before.args.first.now c.before.before.before.before.before.before.before.before.before.before.before.before.before.before.before.before.before.before.before.before.before.before.before.before.before.before.before.before.before.before.before.args.second.now _ _ c.before.before.before.before.before.before.before.before.before.before.before.before.before.before.before.before.before.before.before.before.before.before.before.before.before.before.before.before.before.before.before.requires.0 c.before.before.before.before.before.before.before.before.before.before.before.before.before.before.before.before.before.before.before.before.before.before.before.before.before.before.before.before.before.before.before.requires.1 c.before.before.before.before.before.before.before.before.before.before.before.before.before.before.before.before.before.before.before.pairing.new.1.1.1.1.0 c.before.before.before.before.before.before.before.before.before.before.before.before.before.before.before.before.before.before.before.pairing.new.1.1.1.1.1.0 (search rules) c.before.before.before.before.before.before.before.before.before.before.before.before.before.before.before.before.before.before.before.pairing.result c.before.before.before.before.before.before.before.before.before.before.before.before.before.before.before.before.before.before.before.pairing.ensures (omega (arith, c.before.before.before.before.before.before.before.before.before.before.before.before.before.before.if1.false)) c.before.before.before.before.before.before.before.before.before.ordering.new.1.0 c.before.before.before.before.before.before.before.before.before.ordering.new.1.1.0 c.before.before.before.before.before.before.before.before.before.ordering.result c.before.before.before.before.before.before.before.before.before.ordering.ensures c.if2.false
+returns-3 c = decided_cycle c.before.before.before.before.before.before.before.before.before.before.before.before.before.before.before.before.before.before.before.before.before.before.before.before.before.before.before.before.before.before.before.args.keys.now c.before.before.before.before.before.before.before.before.before.before.before.before.before.before.before.before.before.before.before.before.before.before.before.before.before.before.before.before.before.before.before.args.actions.now c.before.before.before.before.before.before.before.before.before.before.before.before.before.before.before.before.before.before.before.before.before.before.before.before.before.before.before.before.before.before.before.args.ends.now c.before.before.before.before.before.before.before.before.before.before.before.before.before.before.before.before.before.before.before.before.before.before.before.before.before.before.before.before.before.before.before.args.scopes.now c.before.before.before.before.before.before.before.before.before.before.before.before.before.before.before.before.before.before.before.before.before.before.before.before.before.before.before.before.before.before.before.args.ups.now c.before.before.before.before.before.before.before.before.before.before.before.before.before.before.before.before.before.before.before.before.before.before.before.before.before.before.before.before.before.before.before.args.first.now c.before.before.before.before.before.before.before.before.before.before.before.before.before.before.before.before.before.before.before.before.before.before.before.before.before.before.before.before.before.before.before.args.second.now _ _ c.before.before.before.before.before.before.before.before.before.before.before.before.before.before.before.before.before.before.before.before.before.before.before.before.before.before.before.before.before.before.before.requires.0 c.before.before.before.before.before.before.before.before.before.before.before.before.before.before.before.before.before.before.before.before.before.before.before.before.before.before.before.before.before.before.before.requires.1 c.before.before.before.before.before.before.before.before.before.before.before.before.before.before.before.before.before.before.before.pairing.new.1.1.1.1.0 c.before.before.before.before.before.before.before.before.before.before.before.before.before.before.before.before.before.before.before.pairing.new.1.1.1.1.1.0 (search rules) c.before.before.before.before.before.before.before.before.before.before.before.before.before.before.before.before.before.before.before.pairing.result c.before.before.before.before.before.before.before.before.before.before.before.before.before.before.before.before.before.before.before.pairing.ensures (omega (arith, c.before.before.before.before.before.before.before.before.before.before.before.before.before.before.if1.false)) c.before.before.before.before.before.before.before.before.before.ordering.new.1.0 c.before.before.before.before.before.before.before.before.before.ordering.new.1.1.0 c.before.before.before.before.before.before.before.before.before.ordering.result c.before.before.before.before.before.before.before.before.before.ordering.ensures c.if2.false
 
 pub weigh-spec : {M : Type 1} → statement M
 weigh-spec =

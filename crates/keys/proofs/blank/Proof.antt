@@ -1,7 +1,7 @@
 -- `blank` meets its contract: the reader decides whether there is a record to wipe.
 use Rattle.operations.specs.Change.{BlankForm}
-use Rattle.keys.proofs.Marks.{holds-none}
-use Rattle.reader.proofs.Whole.{record-refused, slice-bytes}
+use Rattle.keys.proofs.Marks.{holds_none}
+use Rattle.reader.proofs.Whole.{record_refused, slice_bytes}
 use Rattle.keys.proofs.Reading.{was_read}
 use Rattle.keys.proofs.Answers.{blanked}
 use borrow.Author.Rules.{rules}
@@ -18,13 +18,13 @@ enum_told : tie.Need-enum-told
 enum_told c = search rules
 
 wipe-requires : tie.Need-wipe-requires
-wipe-requires c κs = (was_read c.before.before.before.before.before.before.before.args.bytes.now c.before.before.before.before.read.result c.before.before.before.before.read.ensures (slice-bytes c.before.before.before.before.before.before.before.args.bytes.now (λ i. (c.before.before.before.before.before.before.slice-known.given i).fits)) _ c.before.before.enum_told.given.1, holds-none)
+wipe-requires c κs = (was_read c.before.before.before.before.before.before.before.args.bytes.now c.before.before.before.before.read.result c.before.before.before.before.read.ensures (slice_bytes c.before.before.before.before.before.before.before.args.bytes.now (λ i. (c.before.before.before.before.before.before.slice-known.given i).fits)) _ c.before.before.enum_told.given.1, holds_none)
 
 same_length : tie.Need-same-length
 same_length c = search rules
 
 returns : tie.Need-returns
-returns c = BlankForm.unreadable (record-refused c.before.before.before.before.before.before.args.bytes.now _ (rw c.before.r.given.1 at c.before.before.before.read.ensures))
+returns c = BlankForm.unreadable (record_refused c.before.before.before.before.before.before.args.bytes.now _ (rw c.before.r.given.1 at c.before.before.before.read.ensures))
 
 same-length-2 : tie.Need-same-length-2
 same-length-2 c = search rules

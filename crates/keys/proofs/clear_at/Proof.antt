@@ -1,7 +1,7 @@
 -- `clear_at` meets its contract: only the two bytes of a prefix's key are written.
 use native.Mathlib.Omega.{arith}
 use lib.ListN.{length-set}
-use Rattle.keys.proofs.AtNode.{cleared-prefix, cleared-other}
+use Rattle.keys.proofs.AtNode.{cleared_prefix, cleared_other}
 use borrow.Author.Rules.{rules}
 use Rattle.keys.proofs.clear_at.Statement.{statement}
 use Rattle.keys.proofs.clear_at.Tie as tie
@@ -25,10 +25,10 @@ same_length : tie.Need-same-length
 same_length c = search rules
 
 returns : tie.Need-returns
-returns c = cleared-prefix c.before.before.args.bytes.now c.before.before.args.at c.if1.true
+returns c = cleared_prefix c.before.before.args.bytes.now c.before.before.args.at c.if1.true
 
 returns-2 : tie.Need-returns-2
-returns-2 c = cleared-other c.before.before.args.bytes.now c.before.before.args.at c.if1.false
+returns-2 c = cleared_other c.before.before.args.bytes.now c.before.before.args.at c.if1.false
 
 pub clear-at-spec : {M : Type 1} → statement M
 clear-at-spec =

@@ -3,7 +3,7 @@ use native.Mathlib.Omega.{arith}
 use mathlib.Core.Path.{refl}
 use Prim.Native.Nat.{◌-◌}
 use lib.ListN.{length}
-use Rattle.keys.proofs.AtNode.{due-within}
+use Rattle.keys.proofs.AtNode.{due_within}
 use Rattle.keys.proofs.Clearing.{Clearing, erased, onward, start}
 use Rattle.keyset.specs.Set.{member}
 use Rattle.keys.proofs.erase.Statement.{statement}
@@ -19,10 +19,10 @@ loop-holds : tie.Need-loop-init invariant-loop decreases-loop
 loop-holds c = start (member c.before.args.marks.now) c.before.args.bytes.now c.before.requires.0
 
 erase-past-requires : tie.Need-erase-past-requires invariant-loop decreases-loop
-erase-past-requires c κs = (due-within c.before.before.loop.bytes c.before.before.loop.at c.before.loop-test.true _ c.before.before.loop.invariant.due, c.before.before.before.before.requires.1)
+erase-past-requires c κs = (due_within c.before.before.loop.bytes c.before.before.loop.at c.before.loop-test.true _ c.before.before.loop.invariant.due, c.before.before.before.before.requires.1)
 
 loop-less : tie.Need-loop-smaller invariant-loop decreases-loop
-loop-less c = omega (arith, (due-within c.before.before.before.before.before.loop.bytes c.before.before.before.before.before.loop.at c.before.before.before.before.loop-test.true _ c.before.before.before.before.before.loop.invariant.due).1, c.before.before.erase-past.ensures.1, c.before.bytes.given, c.before.before.before.before.loop-test.true)
+loop-less c = omega (arith, (due_within c.before.before.before.before.before.loop.bytes c.before.before.before.before.before.loop.at c.before.before.before.before.loop-test.true _ c.before.before.before.before.before.loop.invariant.due).1, c.before.before.erase-past.ensures.1, c.before.bytes.given, c.before.before.before.before.loop-test.true)
 
 loop-again : tie.Need-loop-preserved invariant-loop decreases-loop
 loop-again c = rw c.before.before.erase-past.ensures.1 (onward (member c.before.before.before.before.before.before.before.args.marks.now) c.before.before.before.before.before.before.before.args.bytes.now c.before.before.before.before.before.loop.bytes c.before.before.before.before.before.loop.at c.before.before.before.before.before.loop.invariant c.before.before.before.before.loop-test.true _ refl _ refl _ c.before.before.erase-past.ensures.0)

@@ -1,6 +1,6 @@
 -- `erase_at` meets its contract.
 use mathlib.Core.Path.{ap, ◌∙◌}
-use Rattle.keys.proofs.Clearing.{erased-not, erased-there}
+use Rattle.keys.proofs.Clearing.{erased_not, erased_there}
 use Rattle.keyset.specs.Set.{member}
 use borrow.Author.Rules.{rules}
 use borrow.Author.Rules.{rules}
@@ -20,13 +20,13 @@ same_length : tie.Need-same-length
 same_length c = search rules
 
 returns : tie.Need-returns
-returns c = erased-there c.before.before.before.before.before.before.before.before.before.args.bytes.now c.before.before.before.before.before.before.before.before.before.args.at _ c.before.before.before.before.before.has.result (c.before.before.before.before.before.has.ensures ∙ ap (member c.before.before.before.before.before.before.before.before.before.args.marks.now) c.before.before.before.before.before.before.key-at.ensures) c.before.before.before.before.if1.true _ c.before.before.clear_at.ensures
+returns c = erased_there c.before.before.before.before.before.before.before.before.before.args.bytes.now c.before.before.before.before.before.before.before.before.before.args.at _ c.before.before.before.before.before.has.result (c.before.before.before.before.before.has.ensures ∙ ap (member c.before.before.before.before.before.before.before.before.before.args.marks.now) c.before.before.before.before.before.before.key-at.ensures) c.before.before.before.before.if1.true _ c.before.before.clear_at.ensures
 
 same-length-2 : tie.Need-same-length-2
 same-length-2 c = search rules
 
 returns-2 : tie.Need-returns-2
-returns-2 c = erased-not c.before.before.before.before.before.args.bytes.now c.before.before.before.before.before.args.at _ c.before.has.result (c.before.has.ensures ∙ ap (member c.before.before.before.before.before.args.marks.now) c.before.before.key-at.ensures) c.if1.false
+returns-2 c = erased_not c.before.before.before.before.before.args.bytes.now c.before.before.before.before.before.args.at _ c.before.has.result (c.before.has.ensures ∙ ap (member c.before.before.before.before.before.args.marks.now) c.before.before.key-at.ensures) c.if1.false
 
 pub erase-at-spec : {M : Type 1} → statement M
 erase-at-spec =

@@ -2,9 +2,9 @@
 use native.Mathlib.Omega.{arith}
 use mathlib.Core.Path.{sym, ap, ◌∙◌}
 use Rattle.format.specs.Flat.{key_at}
-use Rattle.format.specs.Kinds.{bodyLength}
+use Rattle.format.specs.Kinds.{length_of_body}
 use Rattle.keyset.specs.Set.{member}
-use Rattle.keys.proofs.AtNode.{erased-other, inside, key-inside, ends}
+use Rattle.keys.proofs.AtNode.{erased_other, inside, key_inside, ends}
 use borrow.Author.Rules.{rules}
 use Rattle.keys.proofs.erase_past.Statement.{statement}
 use Rattle.keys.proofs.erase_past.Tie as tie
@@ -16,7 +16,7 @@ wide-byte-requires : tie.Need-wide-byte-requires
 wide-byte-requires c κs = search rules
 
 erase-at-requires : tie.Need-erase-at-requires
-erase-at-requires c κs = (inside c.before.before.before.before.before.args.bytes.now c.before.before.before.before.before.args.at c.before.before.before.before.before.requires.0, key-inside c.before.before.before.before.before.args.bytes.now c.before.before.before.before.before.args.at c.before.before.before.before.before.requires.0, c.before.before.before.before.before.requires.1)
+erase-at-requires c κs = (inside c.before.before.before.before.before.args.bytes.now c.before.before.before.before.before.args.at c.before.before.before.before.before.requires.0, key_inside c.before.before.before.before.before.args.bytes.now c.before.before.before.before.before.args.at c.before.before.before.before.before.requires.0, c.before.before.before.before.before.requires.1)
 
 body-length-requires : tie.Need-body-length-requires
 body-length-requires c κs = search rules
@@ -31,7 +31,7 @@ same_length : tie.Need-same-length
 same_length c = search rules
 
 returns : tie.Need-returns
-returns c = (c.before.before.before.erase-at.ensures, (ends c.before.before.before.before.before.before.before.before.before.args.bytes.now c.before.before.before.before.before.before.before.before.before.args.at c.before.before.before.before.before.before.wide-byte.result c.body-length.result c.before.before.before.before.before.before.wide-byte.ensures (c.body-length.ensures ∙ ap bodyLength (sym c.before.before.before.before.before.if1.true))))
+returns c = (c.before.before.before.erase-at.ensures, (ends c.before.before.before.before.before.before.before.before.before.args.bytes.now c.before.before.before.before.before.before.before.before.before.args.at c.before.before.before.before.before.before.wide-byte.result c.body-length.result c.before.before.before.before.before.before.wide-byte.ensures (c.body-length.ensures ∙ ap length_of_body (sym c.before.before.before.before.before.if1.true))))
 
 other-length-requires : tie.Need-other-length-requires
 other-length-requires c κs = search rules
@@ -43,7 +43,7 @@ add-result-4 : tie.Need-overflow-add-result-4
 add-result-4 c = omega (arith, (ends c.before.before.before.before.before.args.bytes.now c.before.before.before.before.before.args.at c.before.before.wide-byte.result c.other_length.result c.before.before.wide-byte.ensures c.other_length.ensures), c.before.before.before.before.before.requires.0.1)
 
 returns-2 : tie.Need-returns-2
-returns-2 c = (erased-other c.before.before.before.before.before.args.bytes.now c.before.before.before.before.before.args.at (member c.before.before.before.before.before.args.marks.now (key_at c.before.before.before.before.before.args.bytes.now c.before.before.before.before.before.args.at)) (λ e. c.before.if1.false (c.before.before.wide-byte.ensures ∙ e)), (ends c.before.before.before.before.before.args.bytes.now c.before.before.before.before.before.args.at c.before.before.wide-byte.result c.other_length.result c.before.before.wide-byte.ensures c.other_length.ensures))
+returns-2 c = (erased_other c.before.before.before.before.before.args.bytes.now c.before.before.before.before.before.args.at (member c.before.before.before.before.before.args.marks.now (key_at c.before.before.before.before.before.args.bytes.now c.before.before.before.before.before.args.at)) (λ e. c.before.if1.false (c.before.before.wide-byte.ensures ∙ e)), (ends c.before.before.before.before.before.args.bytes.now c.before.before.before.before.before.args.at c.before.before.wide-byte.result c.other_length.result c.before.before.wide-byte.ensures c.other_length.ensures))
 
 pub erase-past-spec : {M : Type 1} → statement M
 erase-past-spec =

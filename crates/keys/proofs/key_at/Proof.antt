@@ -1,6 +1,6 @@
 -- `key_at` meets its contract: a prefix's key is its second and third byte of body.
 use native.Mathlib.Omega.{arith}
-use Rattle.keys.proofs.AtNode.{key-of-prefix, key-of-other}
+use Rattle.keys.proofs.AtNode.{key_of_prefix, key_of_other}
 use borrow.Author.Rules.{rules}
 use Rattle.keys.proofs.key_at.Statement.{statement}
 use Rattle.keys.proofs.key_at.Tie as tie
@@ -24,10 +24,10 @@ key-of-requires : tie.Need-key-of-requires
 key-of-requires c κs = search rules
 
 returns : tie.Need-returns
-returns c = key-of-prefix c.before.before.before.before.before.before.args.bytes.now c.before.before.before.before.before.before.args.at c.key_of.result c.before.before.before.if1.true c.key_of.ensures
+returns c = key_of_prefix c.before.before.before.before.before.before.args.bytes.now c.before.before.before.before.before.before.args.at c.key_of.result c.before.before.before.if1.true c.key_of.ensures
 
 returns-2 : tie.Need-returns-2
-returns-2 c = key-of-other c.before.before.before.args.bytes.now c.before.before.before.args.at c.if1.false
+returns-2 c = key_of_other c.before.before.before.args.bytes.now c.before.before.before.args.at c.if1.false
 
 pub key-at-spec : {M : Type 1} → statement M
 key-at-spec =

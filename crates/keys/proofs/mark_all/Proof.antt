@@ -3,7 +3,7 @@ use borrow.Author.Rules.{rules}
 use native.Mathlib.Omega.{arith}
 use Prim.Native.Nat.{◌+◌, ◌-◌}
 use lib.ListN.{length}
-use Rattle.keys.proofs.Marks.{Front, front-none, front-more, front-few, front-all}
+use Rattle.keys.proofs.Marks.{Front, front_none, front_more, front_few, front_all}
 use Rattle.keys.proofs.mark_all.Statement.{statement}
 use Rattle.keys.proofs.mark_all.Tie as tie
 
@@ -14,7 +14,7 @@ abbrev decreases-loop : tie.decreases-loop
 decreases-loop column marks₀ i₀ n₀ marks i n = length column - i
 
 loop-holds : tie.Need-loop-init invariant-loop decreases-loop
-loop-holds c = front-none c.before.args.column.now c.before.args.marks.now c.before.requires
+loop-holds c = front_none c.before.args.column.now c.before.args.marks.now c.before.requires
 
 mul-add : tie.Need-overflow-mul-add invariant-loop decreases-loop
 mul-add c = search rules
@@ -26,7 +26,7 @@ add-requires : tie.Need-add-requires invariant-loop decreases-loop
 add-requires c κs = c.before.before.before.loop.invariant.0.whole
 
 add-n : tie.Need-overflow-add-n invariant-loop decreases-loop
-add-n c = omega (arith, front-few c.before.before.before.before.before.before.args.column.now (c.before.before.before.before.loop.i + 1) _ _ (front-more c.before.before.before.before.before.before.args.column.now c.before.before.before.before.loop.i c.before.before.before.before.loop.marks c.before.before.before.before.loop.n c.before.before.before.loop-test.true (c.before.before.before.before.before.shared-slice-known.given c.before.before.before.before.loop.i).fits _ c.add.result c.add.ensures c.before.before.before.before.loop.invariant))
+add-n c = omega (arith, front_few c.before.before.before.before.before.before.args.column.now (c.before.before.before.before.loop.i + 1) _ _ (front_more c.before.before.before.before.before.before.args.column.now c.before.before.before.before.loop.i c.before.before.before.before.loop.marks c.before.before.before.before.loop.n c.before.before.before.loop-test.true (c.before.before.before.before.before.shared-slice-known.given c.before.before.before.before.loop.i).fits _ c.add.result c.add.ensures c.before.before.before.before.loop.invariant))
 
 add-i : tie.Need-overflow-add-i invariant-loop decreases-loop
 add-i c = search rules
@@ -35,10 +35,10 @@ loop-less : tie.Need-loop-smaller invariant-loop decreases-loop
 loop-less c = search rules
 
 loop-again : tie.Need-loop-preserved invariant-loop decreases-loop
-loop-again c = front-more c.before.before.before.before.before.before.args.column.now c.before.before.before.before.loop.i c.before.before.before.before.loop.marks c.before.before.before.before.loop.n c.before.before.before.loop-test.true (c.before.before.before.before.before.shared-slice-known.given c.before.before.before.before.loop.i).fits _ c.add.result c.add.ensures c.before.before.before.before.loop.invariant
+loop-again c = front_more c.before.before.before.before.before.before.args.column.now c.before.before.before.before.loop.i c.before.before.before.before.loop.marks c.before.before.before.before.loop.n c.before.before.before.loop-test.true (c.before.before.before.before.before.shared-slice-known.given c.before.before.before.before.loop.i).fits _ c.add.result c.add.ensures c.before.before.before.before.loop.invariant
 
 returns : tie.Need-returns invariant-loop decreases-loop
-returns c = front-all c.before.before.before.args.column.now c.before.loop.i _ _ (omega arith) c.before.loop.invariant
+returns c = front_all c.before.before.before.args.column.now c.before.loop.i _ _ (omega arith) c.before.loop.invariant
 
 pub mark-all-spec : {M : Type 1} → statement M
 mark-all-spec =

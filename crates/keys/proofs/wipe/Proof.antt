@@ -5,7 +5,7 @@ use mathlib.Core.Path.{refl}
 use mathlib.Core.Bool.{true}
 use Prim.Native.Nat.{◌-◌}
 use lib.ListN.{length}
-use Rattle.keys.proofs.AtNode.{due-within, key-inside}
+use Rattle.keys.proofs.AtNode.{due_within, key_inside}
 use Rattle.keys.proofs.Passing.{Passed, start, onward, scanned}
 use Rattle.keys.proofs.Clearing as clearing
 use Rattle.keys.proofs.wipe.Statement.{statement}
@@ -21,16 +21,16 @@ loop-holds : tie.Need-loop-init invariant-loop decreases-loop
 loop-holds c = (start c.before.args.bytes.now c.before.args.marks.now c.before.requires.0 c.before.requires.1, clearing.start (λ k. true) c.before.args.bytes.now c.before.requires.0)
 
 mark-at-requires : tie.Need-mark-at-requires invariant-loop decreases-loop
-mark-at-requires c κs = (due-within c.before.before.before.loop.bytes c.before.before.before.loop.at c.before.before.loop-test.true _ c.before.before.before.loop.invariant.1.due, c.before.before.before.loop.invariant.0.holds.whole)
+mark-at-requires c κs = (due_within c.before.before.before.loop.bytes c.before.before.before.loop.at c.before.before.loop-test.true _ c.before.before.before.loop.invariant.1.due, c.before.before.before.loop.invariant.0.holds.whole)
 
 clear-at-requires : tie.Need-clear-at-requires invariant-loop decreases-loop
-clear-at-requires c κs = (c.before.before.before.before.loop-test.true, key-inside c.before.before.before.before.before.loop.bytes c.before.before.before.before.before.loop.at (due-within c.before.before.before.before.before.loop.bytes c.before.before.before.before.before.loop.at c.before.before.before.before.loop-test.true _ c.before.before.before.before.before.loop.invariant.1.due))
+clear-at-requires c κs = (c.before.before.before.before.loop-test.true, key_inside c.before.before.before.before.before.loop.bytes c.before.before.before.before.before.loop.at (due_within c.before.before.before.before.before.loop.bytes c.before.before.before.before.before.loop.at c.before.before.before.before.loop-test.true _ c.before.before.before.before.before.loop.invariant.1.due))
 
 add-n : tie.Need-overflow-add-n invariant-loop decreases-loop
 add-n c = omega (arith, c.before.before.before.before.before.before.before.before.before.loop.invariant.0.few, c.before.before.before.before.before.mark-at.ensures.0.one)
 
 loop-less : tie.Need-loop-smaller invariant-loop decreases-loop
-loop-less c = omega (arith, (due-within c.before.before.before.before.before.before.before.before.before.loop.bytes c.before.before.before.before.before.before.before.before.before.loop.at c.before.before.before.before.before.before.before.before.loop-test.true _ c.before.before.before.before.before.before.before.before.before.loop.invariant.1.due).1, c.before.before.before.before.before.mark-at.ensures.1, c.before.before.before.clear_at.auto.0)
+loop-less c = omega (arith, (due_within c.before.before.before.before.before.before.before.before.before.loop.bytes c.before.before.before.before.before.before.before.before.before.loop.at c.before.before.before.before.before.before.before.before.loop-test.true _ c.before.before.before.before.before.before.before.before.before.loop.invariant.1.due).1, c.before.before.before.before.before.mark-at.ensures.1, c.before.before.before.clear_at.auto.0)
 
 loop-again : tie.Need-loop-preserved invariant-loop decreases-loop
 loop-again c = rw c.before.before.before.before.before.mark-at.ensures.1 (onward c.before.before.before.before.before.before.before.before.before.before.before.args.bytes.now c.before.before.before.before.before.before.before.before.before.loop.marks c.before.before.before.before.before.before.before.before.before.loop.at c.before.before.before.before.before.before.before.before.before.loop.n c.before.before.before.before.before.before.before.before.before.loop.invariant.0 (omega (arith, c.before.before.before.before.before.before.before.before.loop-test.true, c.before.before.before.before.before.before.before.before.before.loop.invariant.1.same)) _ (clearing.same_key (λ k. true) c.before.before.before.before.before.before.before.before.before.before.before.args.bytes.now c.before.before.before.before.before.before.before.before.before.loop.bytes c.before.before.before.before.before.before.before.before.before.loop.at c.before.before.before.before.before.before.before.before.before.loop.invariant.1) _ _ c.before.before.before.before.before.mark-at.ensures.0 _ (clearing.same_kind (λ k. true) c.before.before.before.before.before.before.before.before.before.before.before.args.bytes.now c.before.before.before.before.before.before.before.before.before.loop.bytes c.before.before.before.before.before.before.before.before.before.loop.at c.before.before.before.before.before.before.before.before.before.loop.invariant.1), clearing.onward (λ k. true) c.before.before.before.before.before.before.before.before.before.before.before.args.bytes.now c.before.before.before.before.before.before.before.before.before.loop.bytes c.before.before.before.before.before.before.before.before.before.loop.at c.before.before.before.before.before.before.before.before.before.loop.invariant.1 c.before.before.before.before.before.before.before.before.loop-test.true _ refl true refl _ c.before.before.before.clear_at.ensures)

@@ -1,6 +1,6 @@
 -- `add` meets its contract: the one byte of the key gets its bit, if it had it not.
 use native.Mathlib.Omega.{arith}
-use Rattle.keyset.proofs.Steps.{kept, bit-free, put_in}
+use Rattle.keyset.proofs.Steps.{kept, bit_free, put_in}
 use borrow.Author.Rules.{rules}
 use Rattle.keyset.proofs.add.Statement.{statement}
 use Rattle.keyset.proofs.add.Tie as tie
@@ -18,7 +18,7 @@ returns : tie.Need-returns
 returns c = kept c.before.before.before.before.args.marks.now c.before.before.before.before.args.key c.before.before.before.wide.result c.before.before.before.wide.ensures c.before.has-bit.result c.before.has-bit.ensures c.if1.true
 
 with-bit-requires : tie.Need-with-bit-requires
-with-bit-requires c κs = (omega arith, bit-free c.before.before.before.before.args.marks.now c.before.before.before.before.args.key c.before.before.before.wide.result c.before.before.before.wide.ensures c.before.has-bit.result c.before.has-bit.ensures c.if1.false)
+with-bit-requires c κs = (omega arith, bit_free c.before.before.before.before.args.marks.now c.before.before.before.before.args.key c.before.before.before.wide.result c.before.before.before.wide.ensures c.before.has-bit.result c.before.has-bit.ensures c.if1.false)
 
 element-write-marks : tie.Need-element-write-marks
 element-write-marks c = search rules

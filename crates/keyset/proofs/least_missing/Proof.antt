@@ -3,7 +3,7 @@ use borrow.Author.Count.{below_more}
 use native.Mathlib.Omega.{arith}
 use mathlib.Core.Path.{sym, ◌∙◌}
 use Prim.Native.Nat.{◌+◌, ◌*◌, ◌-◌}
-use Rattle.keyset.proofs.Steps.{Below, within, skip-byte}
+use Rattle.keyset.proofs.Steps.{Below, within, skip_byte}
 use Rattle.keyset.proofs.least_missing.Statement.{statement}
 use Rattle.keyset.proofs.least_missing.Tie as tie
 
@@ -32,7 +32,7 @@ loop-less : tie.Need-loop-smaller invariant-loop decreases-loop invariant-loop2 
 loop-less c = omega (arith, within c.before.before.before.args.marks.now (c.before.before.loop.i * 8) c.before.before.before.requires.1 c.before.before.loop.invariant)
 
 loop-again : tie.Need-loop-preserved invariant-loop decreases-loop invariant-loop2 decreases-loop2
-loop-again c = skip-byte c.before.before.before.args.marks.now c.before.before.loop.i c.if1.true c.before.before.loop.invariant
+loop-again c = skip_byte c.before.before.before.args.marks.now c.before.before.loop.i c.if1.true c.before.before.loop.invariant
 
 mul-k : tie.Need-overflow-mul-k invariant-loop decreases-loop invariant-loop2 decreases-loop2
 mul-k c = omega (arith, within c.before.before.before.args.marks.now (c.before.before.loop.i * 8) c.before.before.before.requires.1 c.before.before.loop.invariant)

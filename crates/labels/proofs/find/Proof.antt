@@ -2,7 +2,7 @@
 use borrow.Author.Rules.{rules}
 use native.Mathlib.Omega.{arith}
 use Prim.Native.Nat.{◌+◌, ◌-◌, ◌/◌}
-use Rattle.labels.proofs.Search.{Between, between-all, between-right, between_left, parts}
+use Rattle.labels.proofs.Search.{Between, between_all, between_right, between_left, parts}
 use Rattle.labels.proofs.find.Statement.{statement}
 use Rattle.labels.proofs.find.Tie as tie
 
@@ -13,7 +13,7 @@ abbrev decreases-loop : tie.decreases-loop
 decreases-loop row count key low₀ high₀ low high = high - low
 
 loop-holds : tie.Need-loop-init invariant-loop decreases-loop
-loop-holds c = between-all c.args.row.now c.args.count c.args.key
+loop-holds c = between_all c.args.row.now c.args.count c.args.key
 
 sub-middle : tie.Need-overflow-sub-middle invariant-loop decreases-loop
 sub-middle c = search rules
@@ -34,7 +34,7 @@ loop-less : tie.Need-loop-smaller invariant-loop decreases-loop
 loop-less c = omega (arith, c.before.before.loop-test.true)
 
 loop-again : tie.Need-loop-preserved invariant-loop decreases-loop
-loop-again c = between-right c.before.before.before.before.args.row.now c.before.before.before.before.args.count c.before.before.before.before.args.key c.before.before.before.before.requires c.before.before.before.loop.low c.before.before.before.loop.high c.before.before.before.loop.invariant (c.before.before.before.loop.low + (c.before.before.before.loop.high - c.before.before.before.loop.low) / 2) (omega arith) (omega (arith, c.before.before.loop-test.true)) c.if1.true
+loop-again c = between_right c.before.before.before.before.args.row.now c.before.before.before.before.args.count c.before.before.before.before.args.key c.before.before.before.before.requires c.before.before.before.loop.low c.before.before.before.loop.high c.before.before.before.loop.invariant (c.before.before.before.loop.low + (c.before.before.before.loop.high - c.before.before.before.loop.low) / 2) (omega arith) (omega (arith, c.before.before.loop-test.true)) c.if1.true
 
 loop-less-2 : tie.Need-loop-smaller-2 invariant-loop decreases-loop
 loop-less-2 c = omega (arith, c.before.before.loop-test.true)

@@ -3,7 +3,7 @@ use borrow.Author.Rules.{rules}
 use native.Mathlib.Omega.{arith}
 use Prim.Native.Nat.{◌-◌}
 use lib.ListN.{length}
-use Rattle.format.proofs.Flat.{key-within, kind-known, ends-within}
+use Rattle.format.proofs.Flat.{key_within, kind_known, ends_within}
 use Rattle.labels.proofs.Gathering.{Passed, start, onward, labelled}
 use Rattle.labels.proofs.undo_labels.Statement.{statement}
 use Rattle.labels.proofs.undo_labels.Tie as tie
@@ -24,22 +24,22 @@ wide-byte-requires : tie.Need-wide-byte-requires invariant-loop decreases-loop
 wide-byte-requires c κs = search rules
 
 pass-requires : tie.Need-pass-requires invariant-loop decreases-loop
-pass-requires c κs = ((c.before.before.before.loop-test.true, key-within c.before.before.before.before.before.before.before.args.bytes.now c.before.before.before.before.loop.at c.before.before.before.before.loop.invariant.terms c.before.before.before.before.loop.invariant.due c.before.before.before.loop-test.true), (c.before.before.before.before.before.before.before.requires.1.0, (c.before.before.before.before.before.before.before.requires.1.1.0, c.before.before.before.before.loop.invariant.room)))
+pass-requires c κs = ((c.before.before.before.loop-test.true, key_within c.before.before.before.before.before.before.before.args.bytes.now c.before.before.before.before.loop.at c.before.before.before.before.loop.invariant.terms c.before.before.before.before.loop.invariant.due c.before.before.before.loop-test.true), (c.before.before.before.before.before.before.before.requires.1.0, (c.before.before.before.before.before.before.before.requires.1.1.0, c.before.before.before.before.loop.invariant.room)))
 
 mul_at : tie.Need-overflow-mul-at invariant-loop decreases-loop
-mul_at c = omega (arith, kind-known c.before.before.before.before.before.before.before.before.args.bytes.now c.before.before.before.before.before.loop.at c.before.before.before.before.before.loop.invariant.terms c.before.before.before.before.before.loop.invariant.due c.before.before.before.before.loop-test.true c.before.before.wide-byte.result c.before.before.wide-byte.ensures)
+mul_at c = omega (arith, kind_known c.before.before.before.before.before.before.before.before.args.bytes.now c.before.before.before.before.before.loop.at c.before.before.before.before.before.loop.invariant.terms c.before.before.before.before.before.loop.invariant.due c.before.before.before.before.loop-test.true c.before.before.wide-byte.result c.before.before.wide-byte.ensures)
 
 array-read-at : tie.Need-array-read-at invariant-loop decreases-loop
-array-read-at c = kind-known c.before.before.before.before.before.before.before.before.args.bytes.now c.before.before.before.before.before.loop.at c.before.before.before.before.before.loop.invariant.terms c.before.before.before.before.before.loop.invariant.due c.before.before.before.before.loop-test.true c.before.before.wide-byte.result c.before.before.wide-byte.ensures
+array-read-at c = kind_known c.before.before.before.before.before.before.before.before.args.bytes.now c.before.before.before.before.before.loop.at c.before.before.before.before.before.loop.invariant.terms c.before.before.before.before.before.loop.invariant.due c.before.before.before.before.loop-test.true c.before.before.wide-byte.result c.before.before.wide-byte.ensures
 
 add_at : tie.Need-overflow-add-at invariant-loop decreases-loop
-add_at c = omega (arith, ends-within c.before.before.before.before.before.before.before.before.args.bytes.now c.before.before.before.before.before.loop.at c.before.before.before.before.before.loop.invariant.terms c.before.before.before.before.before.loop.invariant.due c.before.before.before.before.loop-test.true c.before.before.wide-byte.result c.before.before.wide-byte.ensures)
+add_at c = omega (arith, ends_within c.before.before.before.before.before.before.before.before.args.bytes.now c.before.before.before.before.before.loop.at c.before.before.before.before.before.loop.invariant.terms c.before.before.before.before.before.loop.invariant.due c.before.before.before.before.loop-test.true c.before.before.wide-byte.result c.before.before.wide-byte.ensures)
 
 add-at-2 : tie.Need-overflow-add-at-2 invariant-loop decreases-loop
-add-at-2 c = omega (arith, ends-within c.before.before.before.before.before.before.before.before.args.bytes.now c.before.before.before.before.before.loop.at c.before.before.before.before.before.loop.invariant.terms c.before.before.before.before.before.loop.invariant.due c.before.before.before.before.loop-test.true c.before.before.wide-byte.result c.before.before.wide-byte.ensures)
+add-at-2 c = omega (arith, ends_within c.before.before.before.before.before.before.before.before.args.bytes.now c.before.before.before.before.before.loop.at c.before.before.before.before.before.loop.invariant.terms c.before.before.before.before.before.loop.invariant.due c.before.before.before.before.loop-test.true c.before.before.wide-byte.result c.before.before.wide-byte.ensures)
 
 loop-less : tie.Need-loop-smaller invariant-loop decreases-loop
-loop-less c = omega (arith, ends-within c.before.before.before.before.before.before.before.before.args.bytes.now c.before.before.before.before.before.loop.at c.before.before.before.before.before.loop.invariant.terms c.before.before.before.before.before.loop.invariant.due c.before.before.before.before.loop-test.true c.before.before.wide-byte.result c.before.before.wide-byte.ensures)
+loop-less c = omega (arith, ends_within c.before.before.before.before.before.before.before.before.args.bytes.now c.before.before.before.before.before.loop.at c.before.before.before.before.before.loop.invariant.terms c.before.before.before.before.before.loop.invariant.due c.before.before.before.before.loop-test.true c.before.before.wide-byte.result c.before.before.wide-byte.ensures)
 
 loop-again : tie.Need-loop-preserved invariant-loop decreases-loop
 loop-again c = onward c.before.before.before.before.before.before.before.before.args.bytes.now c.before.before.before.before.before.before.before.before.args.row.now c.before.before.before.before.before.before.before.before.args.count c.before.before.before.before.before.loop.labels c.before.before.before.before.before.loop.at c.before.before.before.before.before.loop.invariant c.before.before.before.before.loop-test.true _ c.pass.ensures c.before.before.wide-byte.result c.before.before.wide-byte.ensures

@@ -1,6 +1,6 @@
 -- `build` meets its contract: from place to place towards the root the tree is right.
 use native.Mathlib.Omega.{arith}
-use Rattle.least.proofs.Steps.{Building, begun, built, built-one, built-size}
+use Rattle.least.proofs.Steps.{Building, begun, built, built_one, built_size}
 use borrow.Author.Rules.{rules}
 use Rattle.least.proofs.build.Statement.{statement}
 use Rattle.least.proofs.build.Tie as tie
@@ -51,13 +51,13 @@ loop-less : tie.Need-loop-smaller invariant-loop decreases-loop
 loop-less c = omega (arith, c.before.before.before.loop-test.true)
 
 loop-again : tie.Need-loop-preserved invariant-loop decreases-loop
-loop-again c = built-one c.before.before.before.before.before.before.args.n c.before.before.before.before.before.before.args.tree.now c.before.before.before.before.loop.tree c.before.before.before.before.loop.at c.lesser.result c.before.before.before.before.loop.invariant c.before.before.before.loop-test.true c.lesser.ensures
+loop-again c = built_one c.before.before.before.before.before.before.args.n c.before.before.before.before.before.before.args.tree.now c.before.before.before.before.loop.tree c.before.before.before.before.loop.at c.lesser.result c.before.before.before.before.loop.invariant c.before.before.before.loop-test.true c.lesser.ensures
 
 slice-write-tree-2 : tie.Need-slice-write-tree-2 invariant-loop decreases-loop
 slice-write-tree-2 c = c.before.loop.invariant.leaves.some
 
 same_length : tie.Need-same-length invariant-loop decreases-loop
-same_length c = built-size c.before.before.before.args.n c.before.before.before.args.tree.now c.before.loop.tree c.before.loop.at 65535 c.before.loop.invariant
+same_length c = built_size c.before.before.before.args.n c.before.before.before.args.tree.now c.before.loop.tree c.before.loop.at 65535 c.before.loop.invariant
 
 returns : tie.Need-returns invariant-loop decreases-loop
 returns c = built c.before.before.before.args.n c.before.before.before.args.tree.now c.before.loop.tree c.before.loop.at c.before.loop.invariant c.loop-test.false

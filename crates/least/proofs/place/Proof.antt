@@ -1,6 +1,6 @@
 -- `place` meets its contract: only the place above the one just written may be wrong.
 use native.Mathlib.Omega.{arith}
-use Rattle.least.proofs.Steps.{Rising, beside-inside, placed, risen, rising-on, same_size, up-inside, up-less}
+use Rattle.least.proofs.Steps.{Rising, beside_inside, placed, risen, rising_on, same_size, up_inside, up_less}
 use borrow.Author.Rules.{rules}
 use Rattle.least.proofs.place.Statement.{statement}
 use Rattle.least.proofs.place.Tie as tie
@@ -36,7 +36,7 @@ mul-lesser-2 : tie.Need-overflow-mul-lesser-2 invariant-loop decreases-loop
 mul-lesser-2 c = omega (arith, c.before.loop.invariant.low, c.before.loop.invariant.leaves.few)
 
 slice-read-lesser : tie.Need-slice-read-lesser invariant-loop decreases-loop
-slice-read-lesser c = beside-inside c.before.before.before.before.args.n c.before.before.before.before.args.k c.before.before.before.before.args.value _ c.before.before.loop.tree c.before.before.loop.at c.before.before.loop.least c.before.before.loop.invariant c.before.loop-test.true
+slice-read-lesser c = beside_inside c.before.before.before.before.args.n c.before.before.before.before.args.k c.before.before.before.before.args.value _ c.before.before.loop.tree c.before.before.loop.at c.before.before.loop.least c.before.before.loop.invariant c.before.loop-test.true
 
 lesser-requires : tie.Need-lesser-requires invariant-loop decreases-loop
 lesser-requires c κs = search rules
@@ -45,13 +45,13 @@ mul-tree-2 : tie.Need-overflow-mul-tree-2 invariant-loop decreases-loop
 mul-tree-2 c = omega (arith, c.before.before.before.loop.invariant.low, c.before.before.before.loop.invariant.leaves.few)
 
 slice-write-tree-2 : tie.Need-slice-write-tree-2 invariant-loop decreases-loop
-slice-write-tree-2 c = up-inside c.before.before.before.before.before.args.n c.before.before.before.before.before.args.k c.before.before.before.before.before.args.value _ c.before.before.before.loop.tree c.before.before.before.loop.at c.before.before.before.loop.least c.before.before.before.loop.invariant c.before.before.loop-test.true
+slice-write-tree-2 c = up_inside c.before.before.before.before.before.args.n c.before.before.before.before.before.args.k c.before.before.before.before.before.args.value _ c.before.before.before.loop.tree c.before.before.before.loop.at c.before.before.before.loop.least c.before.before.before.loop.invariant c.before.before.loop-test.true
 
 loop-less : tie.Need-loop-smaller invariant-loop decreases-loop
-loop-less c = up-less c.before.before.before.before.before.args.n c.before.before.before.before.before.args.k c.before.before.before.before.before.args.value _ c.before.before.before.loop.tree c.before.before.before.loop.at c.before.before.before.loop.least c.before.before.before.loop.invariant c.before.before.loop-test.true
+loop-less c = up_less c.before.before.before.before.before.args.n c.before.before.before.before.before.args.k c.before.before.before.before.before.args.value _ c.before.before.before.loop.tree c.before.before.before.loop.at c.before.before.before.loop.least c.before.before.before.loop.invariant c.before.before.loop-test.true
 
 loop-again : tie.Need-loop-preserved invariant-loop decreases-loop
-loop-again c = rising-on c.before.before.before.before.before.args.n c.before.before.before.before.before.args.k c.before.before.before.before.before.args.value _ c.before.before.before.loop.tree c.before.before.before.loop.at c.before.before.before.loop.least c.before.before.before.loop.invariant c.before.before.loop-test.true c.lesser.result c.lesser.ensures
+loop-again c = rising_on c.before.before.before.before.before.args.n c.before.before.before.before.before.args.k c.before.before.before.before.before.args.value _ c.before.before.before.loop.tree c.before.before.before.loop.at c.before.before.before.loop.least c.before.before.before.loop.invariant c.before.before.loop-test.true c.lesser.result c.lesser.ensures
 
 same_length : tie.Need-same-length invariant-loop decreases-loop
 same_length c = same_size c.before.before.before.args.n c.before.before.before.args.k c.before.before.before.args.value c.before.before.before.args.tree.now c.before.loop.tree c.before.loop.at c.before.loop.least c.before.loop.invariant

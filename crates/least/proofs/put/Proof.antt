@@ -2,7 +2,7 @@
 use native.Mathlib.Omega.{arith}
 use mathlib.Core.Path.{refl, sym, ◌∙◌}
 use mathlib.Core.Logic.{inl}
-use Rattle.least.proofs.Boards.{put-inside, put-outside, put-swap, swap-requires}
+use Rattle.least.proofs.Boards.{put_inside, put_outside, put_swap, swap_requires}
 use lib.ListN.{length-set}
 use borrow.Author.Rules.{rules}
 use borrow.Author.Rules.{rules}
@@ -22,7 +22,7 @@ same_length : tie.Need-same-length
 same_length c = search rules
 
 returns : tie.Need-returns
-returns c = put-inside c.before.before.before.before.before.before.before.args.n c.before.before.before.before.before.before.before.args.k c.before.before.before.before.before.before.before.args.tree.now c.before.before.before.before.before.before.before.requires.0 c.before.before.before.before.before.before.before.requires.1.0 c.before.before.before.before.before.before.before.requires.1.1 c.before.before.before.before.if1.true _ c.before.before.place.ensures
+returns c = put_inside c.before.before.before.before.before.before.before.args.n c.before.before.before.before.before.before.before.args.k c.before.before.before.before.before.before.before.args.tree.now c.before.before.before.before.before.before.before.requires.0 c.before.before.before.before.before.before.before.requires.1.0 c.before.before.before.before.before.before.before.requires.1.1 c.before.before.before.before.if1.true _ c.before.before.place.ensures
 
 slice-write-tree : tie.Need-slice-write-tree
 slice-write-tree c = c.before.before.before.requires.0.whole.leaves.some
@@ -31,19 +31,19 @@ wide-requires : tie.Need-wide-requires
 wide-requires c κs = search rules
 
 place-requires-2 : tie.Need-place-requires-2
-place-requires-2 c κs = ((swap-requires c.before.before.before.before.before.before.args.n c.before.before.before.before.before.before.args.k c.before.before.before.before.before.before.args.tree.now c.before.before.before.before.before.before.requires.0 c.before.before.before.before.before.before.requires.1.0 c.before.before.before.before.before.before.requires.1.1 c.before.before.before.if1.false c.before.before.if2.true).0, (omega (arith, c.wide.ensures, (swap-requires c.before.before.before.before.before.before.args.n c.before.before.before.before.before.before.args.k c.before.before.before.before.before.before.args.tree.now c.before.before.before.before.before.before.requires.0 c.before.before.before.before.before.before.requires.1.0 c.before.before.before.before.before.before.requires.1.1 c.before.before.before.if1.false c.before.before.if2.true).1), inl (sym c.wide.ensures)))
+place-requires-2 c κs = ((swap_requires c.before.before.before.before.before.before.args.n c.before.before.before.before.before.before.args.k c.before.before.before.before.before.before.args.tree.now c.before.before.before.before.before.before.requires.0 c.before.before.before.before.before.before.requires.1.0 c.before.before.before.before.before.before.requires.1.1 c.before.before.before.if1.false c.before.before.if2.true).0, (omega (arith, c.wide.ensures, (swap_requires c.before.before.before.before.before.before.args.n c.before.before.before.before.before.before.args.k c.before.before.before.before.before.before.args.tree.now c.before.before.before.before.before.before.requires.0 c.before.before.before.before.before.before.requires.1.0 c.before.before.before.before.before.before.requires.1.1 c.before.before.before.if1.false c.before.before.if2.true).1), inl (sym c.wide.ensures)))
 
 same-length-2 : tie.Need-same-length-2
 same-length-2 c = c.before.tree2.given ∙ length-set c.before.before.before.before.before.before.before.before.before.args.tree.now 0 c.before.before.before.before.before.before.before.before.before.args.k
 
 returns-2 : tie.Need-returns-2
-returns-2 c = put-swap c.before.before.before.before.before.before.before.before.before.args.n c.before.before.before.before.before.before.before.before.before.args.k c.before.before.before.before.before.before.before.before.before.args.tree.now c.before.before.before.before.before.before.before.before.before.requires.0 c.before.before.before.before.before.before.before.before.before.requires.1.0 c.before.before.before.before.before.before.before.before.before.requires.1.1 c.before.before.before.before.before.before.if1.false c.before.before.before.before.before.if2.true c.before.before.before.wide.result c.before.before.before.wide.ensures _ refl _ c.before.before.place2.ensures
+returns-2 c = put_swap c.before.before.before.before.before.before.before.before.before.args.n c.before.before.before.before.before.before.before.before.before.args.k c.before.before.before.before.before.before.before.before.before.args.tree.now c.before.before.before.before.before.before.before.before.before.requires.0 c.before.before.before.before.before.before.before.before.before.requires.1.0 c.before.before.before.before.before.before.before.before.before.requires.1.1 c.before.before.before.before.before.before.if1.false c.before.before.before.before.before.if2.true c.before.before.before.wide.result c.before.before.before.wide.ensures _ refl _ c.before.before.place2.ensures
 
 same-length-3 : tie.Need-same-length-3
 same-length-3 c = search rules
 
 returns-3 : tie.Need-returns-3
-returns-3 c = put-outside c.before.before.before.before.args.n c.before.before.before.before.args.k c.before.before.before.before.args.tree.now c.before.before.before.before.requires.0 c.before.before.before.before.requires.1.0 c.before.before.before.before.requires.1.1 c.before.if1.false c.if2.false (c.before.before.before.slice-known.given 0).fits
+returns-3 c = put_outside c.before.before.before.before.args.n c.before.before.before.before.args.k c.before.before.before.before.args.tree.now c.before.before.before.before.requires.0 c.before.before.before.before.requires.1.0 c.before.before.before.before.requires.1.1 c.before.if1.false c.if2.false (c.before.before.before.slice-known.given 0).fits
 
 pub put_spec : {M : Type 1} → statement M
 put_spec =

@@ -1,10 +1,10 @@
 -- `take_linked` meets its contract: the keys that are reached are put in order, and the record is left without them.
 use native.Mathlib.Omega.{arith}
 use Prim.Native.Nat.{ℕ}
-use Rattle.linked.proofs.Linked.{few, set-whole, sortable, taken_back, too_short}
+use Rattle.linked.proofs.Linked.{few, set_whole, sortable, taken_back, too_short}
 use Rattle.filing.specs.Cabinet.{cabinet}
 use lib.ListN.{length-replicate}
-use Rattle.keys.proofs.Marks.{holds-none}
+use Rattle.keys.proofs.Marks.{holds_none}
 use borrow.Author.Rules.{rules}
 use borrow.Author.Rules.{rules}
 use Rattle.linked.proofs.take_linked.Statement.{statement}
@@ -14,7 +14,7 @@ slice-aggregate-reach : tie.Need-slice-aggregate-reach
 slice-aggregate-reach c = search rules
 
 reach-requires : tie.Need-reach-requires
-reach-requires c κs = (c.before.before.before.before.before.before.before.before.before.before.requires.filed.0, (holds-none, length-replicate {A = ℕ} 4097 0))
+reach-requires c κs = (c.before.before.before.before.before.before.before.before.before.before.requires.filed.0, (holds_none, length-replicate {A = ℕ} 4097 0))
 
 same_length : tie.Need-same-length
 same_length c = search rules
@@ -38,7 +38,7 @@ add-requires : tie.Need-add-requires
 add-requires c κs = c.before.before.before.before.before.before.before.before.before.before.before.before.before.before.reach.ensures.holds.whole
 
 erase-requires : tie.Need-erase-requires
-erase-requires c κs = ((c.before.before.before.before.before.before.before.before.before.before.before.before.before.before.before.before.before.before.before.before.before.before.before.before.before.before.before.before.requires.stands.0, c.before.before.before.before.before.before.before.before.before.before.before.before.before.before.before.before.before.before.before.before.before.before.before.before.before.before.before.before.requires.stands.1), set-whole c.before.before.add.ensures c.before.before.before.before.before.before.before.before.before.before.before.before.before.before.before.before.before.reach.ensures.holds.whole)
+erase-requires c κs = ((c.before.before.before.before.before.before.before.before.before.before.before.before.before.before.before.before.before.before.before.before.before.before.before.before.before.before.before.before.requires.stands.0, c.before.before.before.before.before.before.before.before.before.before.before.before.before.before.before.before.before.before.before.before.before.before.before.before.before.before.before.before.requires.stands.1), set_whole c.before.before.add.ensures c.before.before.before.before.before.before.before.before.before.before.before.before.before.before.before.before.before.reach.ensures.holds.whole)
 
 add-t19 : tie.Need-overflow-add-t19
 add-t19 c = omega (arith, few c.before.before.before.before.before.before.before.before.before.before.before.before.before.before.before.before.before.before.before.before.before.before.before.before.before.before.before.before.before.before.before.args.bytes.now c.before.before.before.before.before.before.before.before.before.before.before.before.before.before.before.before.before.before.before.before.before.before.before.before.before.before.before.before.before.before.before.args.key (cabinet c.before.before.before.before.before.before.before.before.before.before.before.before.before.before.before.before.before.before.before.before.before.before.before.before.before.before.before.before.before.before.before.args.upper.now c.before.before.before.before.before.before.before.before.before.before.before.before.before.before.before.before.before.before.before.before.before.before.before.before.before.before.before.before.before.before.before.args.lower.now c.before.before.before.before.before.before.before.before.before.before.before.before.before.before.before.before.before.before.before.before.before.before.before.before.before.before.before.before.before.before.before.args.older.now c.before.before.before.before.before.before.before.before.before.before.before.before.before.before.before.before.before.before.before.before.before.before.before.before.before.before.before.before.before.before.before.args.latest.now) c.before.before.before.before.before.before.before.before.before.before.before.before.before.before.before.before.before.before.before.before.before.before.before.before.before.before.before.before.before.before.before.args.links c.before.before.before.before.before.before.before.before.before.before.before.before.before.before.before.before.before.before.before.before.before.before.before.before.before.before.before.before.before.before.before.requires _ c.before.before.before.before.before.before.before.before.before.before.before.before.before.before.before.before.before.before.before.before.reach.result c.before.before.before.before.before.before.before.before.before.before.before.before.before.before.before.before.before.before.before.before.reach.ensures)

@@ -1,7 +1,7 @@
 -- `enter` meets its contract: by the kind of the node, one key is noted or one scope changed.
 use mathlib.Core.Path.{refl}
 use native.Mathlib.Omega.{arith}
-use Rattle.noting.proofs.Nodes.{enter-undone, enter-done, enter-restriction, enter-two}
+use Rattle.noting.proofs.Nodes.{enter_undone, enter_done, enter_restriction, enter_two}
 use borrow.Author.Rules.{rules}
 use Rattle.noting.proofs.enter.Statement.{statement}
 use Rattle.noting.proofs.enter.Tie as tie
@@ -22,7 +22,7 @@ key-of-requires : tie.Need-key-of-requires
 key-of-requires c κs = search rules
 
 returns : tie.Need-returns
-returns c = enter-undone c.before.before.before.before.before.before.args.s.now c.before.before.before.before.before.before.args.at _ _ _ c.before.before.before.before.before.before.args.all.now c.before.before.before.before.before.before.args.scopes.now _ c.before.key_of.result c.before.before.before.before.if1.true c.before.key_of.ensures c.if2.true refl
+returns c = enter_undone c.before.before.before.before.before.before.args.s.now c.before.before.before.before.before.before.args.at _ _ _ c.before.before.before.before.before.before.args.all.now c.before.before.before.before.before.before.args.scopes.now _ c.before.key_of.result c.before.before.before.before.if1.true c.before.key_of.ensures c.if2.true refl
 
 mul-all : tie.Need-overflow-mul-all
 mul-all c = search rules
@@ -34,7 +34,7 @@ add-t16 : tie.Need-overflow-add-t16
 add-t16 c = search rules
 
 returns-2 : tie.Need-returns-2
-returns-2 c = enter-done c.before.before.before.before.before.before.args.s.now c.before.before.before.before.before.before.args.at _ _ _ c.before.before.before.before.before.before.args.all.now c.before.before.before.before.before.before.args.scopes.now _ c.before.key_of.result c.before.before.before.before.if1.true c.before.key_of.ensures c.if2.false (omega (arith, c.before.before.before.before.before.before.requires.1)) refl
+returns-2 c = enter_done c.before.before.before.before.before.before.args.s.now c.before.before.before.before.before.before.args.at _ _ _ c.before.before.before.before.before.before.args.all.now c.before.before.before.before.before.before.args.scopes.now _ c.before.key_of.result c.before.before.before.before.if1.true c.before.key_of.ensures c.if2.false (omega (arith, c.before.before.before.before.before.before.requires.1)) refl
 
 add_a : tie.Need-overflow-add-a
 add_a c = omega (arith, c.before.before.before.requires.0.1 c.if3.true)
@@ -64,10 +64,10 @@ element-write-scopes : tie.Need-element-write-scopes
 element-write-scopes c = search rules
 
 returns-3 : tie.Need-returns-3
-returns-3 c = enter-restriction c.before.before.before.before.before.before.args.s.now c.before.before.before.before.before.before.args.at _ _ _ c.before.before.before.before.before.before.args.all.now c.before.before.before.before.before.before.args.scopes.now _ c.before.slot.result c.before.before.before.if3.true c.before.slot.ensures refl refl
+returns-3 c = enter_restriction c.before.before.before.before.before.before.args.s.now c.before.before.before.before.before.before.args.at _ _ _ c.before.before.before.before.before.before.args.all.now c.before.before.before.before.before.before.args.scopes.now _ c.before.slot.result c.before.before.before.if3.true c.before.slot.ensures refl refl
 
 returns-4 : tie.Need-returns-4
-returns-4 c = enter-two c.before.before.before.args.s.now c.before.before.before.args.at _ _ _ c.before.before.before.args.all.now c.before.before.before.args.scopes.now _ c.before.if1.false c.if3.false refl
+returns-4 c = enter_two c.before.before.before.args.s.now c.before.before.before.args.at _ _ _ c.before.before.before.args.all.now c.before.before.before.args.scopes.now _ c.before.if1.false c.if3.false refl
 
 pub enter_spec : {M : Type 1} → statement M
 enter_spec =

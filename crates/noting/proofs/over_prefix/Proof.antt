@@ -4,7 +4,7 @@ use lib.ListN.{get_or, length-set}
 use mathlib.Core.Path.{refl}
 use native.Mathlib.Omega.{arith}
 use Rattle.noting.proofs.Rows.{rows-length}
-use Rattle.noting.proofs.Nodes.{over-undone, over-own, over_below}
+use Rattle.noting.proofs.Nodes.{over_undone, over_own, over_below}
 use borrow.Author.Rules.{rules}
 use Rattle.noting.proofs.over_prefix.Statement.{statement}
 use Rattle.noting.proofs.over_prefix.Tie as tie
@@ -25,7 +25,7 @@ key-of-requires : tie.Need-key-of-requires
 key-of-requires c κs = search rules
 
 returns : tie.Need-returns
-returns c = (over-undone c.before.before.before.before.before.args.s.now c.before.before.before.before.before.args.at c.before.before.before.before.before.args.keys c.before.before.before.before.before.args.k c.before.before.before.before.before.args.lasts c.before.before.before.before.before.args.l c.before.before.before.before.before.args.key.now c.before.before.before.before.before.args.action.now c.before.before.before.before.before.args.scope.now c.before.before.before.before.before.args.scopes.now c.before.key_of.result c.before.key_of.ensures c.if1.true, c.before.before.before.before.before.requires.1.0, c.before.before.before.before.before.requires.1.1, c.before.before.before.before.before.requires.1.2)
+returns c = (over_undone c.before.before.before.before.before.args.s.now c.before.before.before.before.before.args.at c.before.before.before.before.before.args.keys c.before.before.before.before.before.args.k c.before.before.before.before.before.args.lasts c.before.before.before.before.before.args.l c.before.before.before.before.before.args.key.now c.before.before.before.before.before.args.action.now c.before.before.before.before.before.args.scope.now c.before.before.before.before.before.args.scopes.now c.before.key_of.result c.before.key_of.ensures c.if1.true, c.before.before.before.before.before.requires.1.0, c.before.before.before.before.before.requires.1.1, c.before.before.before.before.before.requires.1.2)
 
 mul-key : tie.Need-overflow-mul-key
 mul-key c = search rules
@@ -67,7 +67,7 @@ add-result : tie.Need-overflow-add-result
 add-result c = search rules
 
 returns-2 : tie.Need-returns-2
-returns-2 c = (over-own c.before.before.before.before.before.before.before.before.before.before.args.s.now c.before.before.before.before.before.before.before.before.before.before.args.at c.before.before.before.before.before.before.before.before.before.before.args.keys c.before.before.before.before.before.before.before.before.before.before.args.k c.before.before.before.before.before.before.before.before.before.before.args.lasts c.before.before.before.before.before.before.before.before.before.before.args.l c.before.before.before.before.before.before.before.before.before.before.args.key.now c.before.before.before.before.before.before.before.before.before.before.args.action.now c.before.before.before.before.before.before.before.before.before.before.args.scope.now c.before.before.before.before.before.before.before.before.before.before.args.scopes.now c.before.before.before.before.before.before.key_of.result c.before.before.before.before.before.before.key_of.ensures (get_or c.before.before.before.before.before.before.before.before.before.before.args.s.now (c.before.before.before.before.before.before.before.before.before.before.args.at + 1) 0) c.before.slot_of.result (get_or c.before.before.before.before.before.before.before.before.before.before.args.scopes.now c.before.slot_of.result 0) c.before.before.before.before.before.if1.false c.before.before.before.before.if2.true (omega (arith, rows-length 4096 c.before.before.before.before.before.before.before.before.before.before.args.key.now c.before.before.before.before.before.before.before.before.before.before.args.action.now c.before.before.before.before.before.before.before.before.before.before.args.scope.now c.before.before.before.before.before.before.before.before.before.before.requires.1.0 c.before.before.before.before.before.before.before.before.before.before.requires.1.1 c.before.before.before.before.before.before.before.before.before.before.requires.1.2, c.before.before.before.before.before.before.before.before.before.before.requires.0.1)) refl c.before.slot_of.ensures refl, simp length-set c.before.before.before.before.before.before.before.before.before.before.requires.1.0, simp length-set c.before.before.before.before.before.before.before.before.before.before.requires.1.1, simp length-set c.before.before.before.before.before.before.before.before.before.before.requires.1.2)
+returns-2 c = (over_own c.before.before.before.before.before.before.before.before.before.before.args.s.now c.before.before.before.before.before.before.before.before.before.before.args.at c.before.before.before.before.before.before.before.before.before.before.args.keys c.before.before.before.before.before.before.before.before.before.before.args.k c.before.before.before.before.before.before.before.before.before.before.args.lasts c.before.before.before.before.before.before.before.before.before.before.args.l c.before.before.before.before.before.before.before.before.before.before.args.key.now c.before.before.before.before.before.before.before.before.before.before.args.action.now c.before.before.before.before.before.before.before.before.before.before.args.scope.now c.before.before.before.before.before.before.before.before.before.before.args.scopes.now c.before.before.before.before.before.before.key_of.result c.before.before.before.before.before.before.key_of.ensures (get_or c.before.before.before.before.before.before.before.before.before.before.args.s.now (c.before.before.before.before.before.before.before.before.before.before.args.at + 1) 0) c.before.slot_of.result (get_or c.before.before.before.before.before.before.before.before.before.before.args.scopes.now c.before.slot_of.result 0) c.before.before.before.before.before.if1.false c.before.before.before.before.if2.true (omega (arith, rows-length 4096 c.before.before.before.before.before.before.before.before.before.before.args.key.now c.before.before.before.before.before.before.before.before.before.before.args.action.now c.before.before.before.before.before.before.before.before.before.before.args.scope.now c.before.before.before.before.before.before.before.before.before.before.requires.1.0 c.before.before.before.before.before.before.before.before.before.before.requires.1.1 c.before.before.before.before.before.before.before.before.before.before.requires.1.2, c.before.before.before.before.before.before.before.before.before.before.requires.0.1)) refl c.before.slot_of.ensures refl, simp length-set c.before.before.before.before.before.before.before.before.before.before.requires.1.0, simp length-set c.before.before.before.before.before.before.before.before.before.before.requires.1.1, simp length-set c.before.before.before.before.before.before.before.before.before.before.requires.1.2)
 
 returns-3 : tie.Need-returns-3
 returns-3 c = (over_below c.before.before.before.before.before.before.args.s.now c.before.before.before.before.before.before.args.at c.before.before.before.before.before.before.args.keys c.before.before.before.before.before.before.args.k c.before.before.before.before.before.before.args.lasts c.before.before.before.before.before.before.args.l c.before.before.before.before.before.before.args.key.now c.before.before.before.before.before.before.args.action.now c.before.before.before.before.before.before.args.scope.now c.before.before.before.before.before.before.args.scopes.now c.before.before.key_of.result c.before.before.key_of.ensures c.before.if1.false c.if2.false, c.before.before.before.before.before.before.requires.1.0, c.before.before.before.before.before.before.requires.1.1, c.before.before.before.before.before.before.requires.1.2)

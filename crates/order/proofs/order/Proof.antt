@@ -1,6 +1,6 @@
 -- `order` meets its contract: the rows are threaded, the tree is planted, and the keys are taken out.
 use native.Mathlib.Omega.{arith}
-use Rattle.order.proofs.Whole.{listable, ranked-keys, ready, room, scene, sorted, state}
+use Rattle.order.proofs.Whole.{listable, ranked_keys, ready, room, scene, sorted, state}
 use borrow.Author.Rules.{rules}
 use Rattle.order.proofs.order.Statement.{statement}
 use Rattle.order.proofs.order.Tie as tie
@@ -21,7 +21,7 @@ slice-aggregate-thread-all-2 : tie.Need-slice-aggregate-thread-all-2
 slice-aggregate-thread-all-2 c = search rules
 
 thread-all-requires : tie.Need-thread-all-requires
-thread-all-requires c κs = (ranked-keys c.before.before.before.before.before.before.before.before.before.before.before.before.before.before.args.marks.now c.before.before.before.before.before.before.before.before.before.before.before.before.before.before.args.n c.before.before.before.before.before.before.before.before.before.before.before.before.before.before.args.links c.before.before.before.before.before.before.before.before.before.before.before.before.before.before.args.upper.now c.before.before.before.before.before.before.before.before.before.before.before.before.before.before.args.lower.now c.before.before.before.before.before.before.before.before.before.before.before.before.before.before.requires.0, ready c.before.before.before.before.before.before.before.before.before.before.before.before.before.before.args.marks.now c.before.before.before.before.before.before.before.before.before.before.before.before.before.before.args.n c.before.before.before.before.before.before.before.before.before.before.before.before.before.before.args.links c.before.before.before.before.before.before.before.before.before.before.before.before.before.before.args.upper.now c.before.before.before.before.before.before.before.before.before.before.before.before.before.before.args.lower.now c.before.before.before.before.before.before.before.before.before.before.before.before.before.before.requires.0 _ _ c.before.before.before.before.before.before.before.before.fill.ensures c.before.before.before.before.before.before.before.before.before.before.before.before.before.before.requires.1.0)
+thread-all-requires c κs = (ranked_keys c.before.before.before.before.before.before.before.before.before.before.before.before.before.before.args.marks.now c.before.before.before.before.before.before.before.before.before.before.before.before.before.before.args.n c.before.before.before.before.before.before.before.before.before.before.before.before.before.before.args.links c.before.before.before.before.before.before.before.before.before.before.before.before.before.before.args.upper.now c.before.before.before.before.before.before.before.before.before.before.before.before.before.before.args.lower.now c.before.before.before.before.before.before.before.before.before.before.before.before.before.before.requires.0, ready c.before.before.before.before.before.before.before.before.before.before.before.before.before.before.args.marks.now c.before.before.before.before.before.before.before.before.before.before.before.before.before.before.args.n c.before.before.before.before.before.before.before.before.before.before.before.before.before.before.args.links c.before.before.before.before.before.before.before.before.before.before.before.before.before.before.args.upper.now c.before.before.before.before.before.before.before.before.before.before.before.before.before.before.args.lower.now c.before.before.before.before.before.before.before.before.before.before.before.before.before.before.requires.0 _ _ c.before.before.before.before.before.before.before.before.fill.ensures c.before.before.before.before.before.before.before.before.before.before.before.before.before.before.requires.1.0)
 
 slice-aggregate-plant : tie.Need-slice-aggregate-plant
 slice-aggregate-plant c = search rules

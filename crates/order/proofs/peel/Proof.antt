@@ -3,7 +3,7 @@ use native.Mathlib.Omega.{arith}
 use mathlib.Core.Path.{◌≡◌, refl, ◌∙◌}
 use Prim.Native.Nat.{◌-◌}
 use lib.ListN.{length, take}
-use Rattle.order.proofs.Peeling.{Peeling, peeled-all, peeled-none, peeled-one, some-free, some_left, taken_out}
+use Rattle.order.proofs.Peeling.{Peeling, peeled_all, peeled_none, peeled_one, some_free, some_left, taken_out}
 use mathlib.Core.List.{[]}
 use Rattle.order.specs.Steps.{Scene, State}
 use lib.ListN.{length-set}
@@ -17,10 +17,10 @@ abbrev decreases-loop : tie.decreases-loop
 decreases-loop keys upper older heads counters₀ tree₀ n row₀ out₀ counters tree row out = n - out
 
 loop-holds : tie.Need-loop-init invariant-loop decreases-loop
-loop-holds c = (refl, refl, refl, λ d t. peeled-none d c.before.before.before.before.before.before.before.args.row.now c.before.before.before.before.before.before.before.args.counters.now c.before.before.before.before.before.before.before.args.tree.now t)
+loop-holds c = (refl, refl, refl, λ d t. peeled_none d c.before.before.before.before.before.before.before.args.row.now c.before.before.before.before.before.before.before.args.counters.now c.before.before.before.before.before.before.before.args.tree.now t)
 
 take-requires : tie.Need-take-requires invariant-loop decreases-loop
-take-requires c κs = ((c.before.before.loop.invariant.3 c.before.before.before.before.before.before.before.before.before.before.requires.0.0 c.before.before.before.before.before.before.before.before.before.before.requires.0.1).state.board, some-free c.before.before.before.before.before.before.before.before.before.before.requires.0.0 (c.before.before.loop.invariant.3 c.before.before.before.before.before.before.before.before.before.before.requires.0.0 c.before.before.before.before.before.before.before.before.before.before.requires.0.1).out c.before.before.loop.counters c.before.before.loop.tree (c.before.before.loop.invariant.3 c.before.before.before.before.before.before.before.before.before.before.requires.0.0 c.before.before.before.before.before.before.before.before.before.before.requires.0.1).state (some_left c.before.before.before.before.before.before.before.before.before.before.requires.0.0 c.before.before.before.before.before.before.before.before.before.before.args.row.now c.before.before.loop.row c.before.before.loop.counters c.before.before.loop.tree c.before.before.loop.out (c.before.before.loop.invariant.3 c.before.before.before.before.before.before.before.before.before.before.requires.0.0 c.before.before.before.before.before.before.before.before.before.before.requires.0.1) c.before.loop-test.true))
+take-requires c κs = ((c.before.before.loop.invariant.3 c.before.before.before.before.before.before.before.before.before.before.requires.0.0 c.before.before.before.before.before.before.before.before.before.before.requires.0.1).state.board, some_free c.before.before.before.before.before.before.before.before.before.before.requires.0.0 (c.before.before.loop.invariant.3 c.before.before.before.before.before.before.before.before.before.before.requires.0.0 c.before.before.before.before.before.before.before.before.before.before.requires.0.1).out c.before.before.loop.counters c.before.before.loop.tree (c.before.before.loop.invariant.3 c.before.before.before.before.before.before.before.before.before.before.requires.0.0 c.before.before.before.before.before.before.before.before.before.before.requires.0.1).state (some_left c.before.before.before.before.before.before.before.before.before.before.requires.0.0 c.before.before.before.before.before.before.before.before.before.before.args.row.now c.before.before.loop.row c.before.before.loop.counters c.before.before.loop.tree c.before.before.loop.out (c.before.before.loop.invariant.3 c.before.before.before.before.before.before.before.before.before.before.requires.0.0 c.before.before.before.before.before.before.before.before.before.before.requires.0.1) c.before.loop-test.true))
 
 mul-row : tie.Need-overflow-mul-row invariant-loop decreases-loop
 mul-row c = omega (arith, c.before.before.take.ensures.number, c.before.before.before.before.before.before.before.before.before.before.before.before.before.requires.0.0.few)
@@ -44,7 +44,7 @@ loop-less : tie.Need-loop-smaller invariant-loop decreases-loop
 loop-less c = omega (arith, c.before.before.before.before.before.before.before.before.before.before.before.before.loop-test.true)
 
 loop-again : tie.Need-loop-preserved invariant-loop decreases-loop
-loop-again c = (c.before.before.before.counters.given ∙ c.before.before.before.before.before.before.before.before.before.before.before.before.before.loop.invariant.0, c.before.tree2.given ∙ c.before.before.before.before.before.before.before.before.before.tree.given ∙ c.before.before.before.before.before.before.before.before.before.before.before.before.before.loop.invariant.1, length-set c.before.before.before.before.before.before.before.before.before.before.before.before.before.loop.row c.before.before.before.before.before.before.before.before.before.before.before.before.before.loop.out _ ∙ c.before.before.before.before.before.before.before.before.before.before.before.before.before.loop.invariant.2, λ d t. peeled-one d c.before.before.before.before.before.before.before.before.before.before.before.before.before.before.before.before.before.before.before.before.before.args.row.now c.before.before.before.before.before.before.before.before.before.before.before.before.before.loop.row c.before.before.before.before.before.before.before.before.before.before.before.before.before.loop.counters c.before.before.before.before.before.before.before.before.before.before.before.before.before.loop.tree c.before.before.before.before.before.before.before.before.before.before.before.before.before.loop.out (c.before.before.before.before.before.before.before.before.before.before.before.before.before.loop.invariant.3 d t) c.before.before.before.before.before.before.before.before.before.before.before.before.loop-test.true c.before.before.before.before.before.before.before.before.before.before.before.before.before.before.before.before.before.before.before.before.before.requires.1 c.before.before.before.before.before.before.before.before.before.before.take.result _ c.before.before.before.before.before.before.before.before.before.before.take.ensures _ _ (c.before.before.before.before.release-all.ensures c.before.before.before.before.before.before.before.before.before.before.before.before.before.before.before.before.before.before.before.before.before.args.keys.now d (c.before.before.before.before.before.before.before.before.before.before.before.before.before.loop.invariant.3 d t).out (taken_out d (c.before.before.before.before.before.before.before.before.before.before.before.before.before.loop.invariant.3 d t).out c.before.before.before.before.before.before.before.before.before.before.before.before.before.loop.counters c.before.before.before.before.before.before.before.before.before.before.before.before.before.loop.tree (c.before.before.before.before.before.before.before.before.before.before.before.before.before.loop.invariant.3 d t).state c.before.before.before.before.before.before.before.before.before.before.take.result _ c.before.before.before.before.before.before.before.before.before.before.take.ensures)))
+loop-again c = (c.before.before.before.counters.given ∙ c.before.before.before.before.before.before.before.before.before.before.before.before.before.loop.invariant.0, c.before.tree2.given ∙ c.before.before.before.before.before.before.before.before.before.tree.given ∙ c.before.before.before.before.before.before.before.before.before.before.before.before.before.loop.invariant.1, length-set c.before.before.before.before.before.before.before.before.before.before.before.before.before.loop.row c.before.before.before.before.before.before.before.before.before.before.before.before.before.loop.out _ ∙ c.before.before.before.before.before.before.before.before.before.before.before.before.before.loop.invariant.2, λ d t. peeled_one d c.before.before.before.before.before.before.before.before.before.before.before.before.before.before.before.before.before.before.before.before.before.args.row.now c.before.before.before.before.before.before.before.before.before.before.before.before.before.loop.row c.before.before.before.before.before.before.before.before.before.before.before.before.before.loop.counters c.before.before.before.before.before.before.before.before.before.before.before.before.before.loop.tree c.before.before.before.before.before.before.before.before.before.before.before.before.before.loop.out (c.before.before.before.before.before.before.before.before.before.before.before.before.before.loop.invariant.3 d t) c.before.before.before.before.before.before.before.before.before.before.before.before.loop-test.true c.before.before.before.before.before.before.before.before.before.before.before.before.before.before.before.before.before.before.before.before.before.requires.1 c.before.before.before.before.before.before.before.before.before.before.take.result _ c.before.before.before.before.before.before.before.before.before.before.take.ensures _ _ (c.before.before.before.before.release-all.ensures c.before.before.before.before.before.before.before.before.before.before.before.before.before.before.before.before.before.before.before.before.before.args.keys.now d (c.before.before.before.before.before.before.before.before.before.before.before.before.before.loop.invariant.3 d t).out (taken_out d (c.before.before.before.before.before.before.before.before.before.before.before.before.before.loop.invariant.3 d t).out c.before.before.before.before.before.before.before.before.before.before.before.before.before.loop.counters c.before.before.before.before.before.before.before.before.before.before.before.before.before.loop.tree (c.before.before.before.before.before.before.before.before.before.before.before.before.before.loop.invariant.3 d t).state c.before.before.before.before.before.before.before.before.before.before.take.result _ c.before.before.before.before.before.before.before.before.before.before.take.ensures)))
 
 same_length : tie.Need-same-length invariant-loop decreases-loop
 same_length c = c.before.loop.invariant.0
@@ -56,7 +56,7 @@ same-length-3 : tie.Need-same-length-3 invariant-loop decreases-loop
 same-length-3 c = c.before.loop.invariant.2
 
 returns : tie.Need-returns invariant-loop decreases-loop
-returns c = λ d t. peeled-all d c.before.before.before.before.before.before.before.before.before.args.row.now c.before.loop.row c.before.loop.counters c.before.loop.tree c.before.loop.out (c.before.loop.invariant.3 d t) c.loop-test.false
+returns c = λ d t. peeled_all d c.before.before.before.before.before.before.before.before.before.args.row.now c.before.loop.row c.before.loop.counters c.before.loop.tree c.before.loop.out (c.before.loop.invariant.3 d t) c.loop-test.false
 
 pub peel-spec : {M : Type 1} → statement M
 peel-spec =

@@ -2,7 +2,7 @@
 use native.Mathlib.Omega.{arith}
 use mathlib.Core.Path.{◌∙◌}
 use Prim.Native.Nat.{◌-◌}
-use Rattle.order.proofs.Planting.{Planting, all-leaves, planted, planted-none, planted-one}
+use Rattle.order.proofs.Planting.{Planting, all_leaves, planted, planted_none, planted_one}
 use Rattle.order.proofs.plant.Statement.{statement}
 use Rattle.order.proofs.plant.Tie as tie
 
@@ -13,7 +13,7 @@ abbrev decreases-loop : tie.decreases-loop
 decreases-loop counters tree₀ n r₀ tree r = n - r
 
 loop-holds : tie.Need-loop-init invariant-loop decreases-loop
-loop-holds c = planted-none c.before.before.args.n c.before.before.args.counters.now c.before.before.args.tree.now
+loop-holds c = planted_none c.before.before.args.n c.before.before.args.counters.now c.before.before.args.tree.now
 
 mul-leaf : tie.Need-overflow-mul-leaf invariant-loop decreases-loop
 mul-leaf c = omega (arith, c.loop-test.true, c.before.before.before.before.requires.0)
@@ -40,10 +40,10 @@ loop-less : tie.Need-loop-smaller invariant-loop decreases-loop
 loop-less c = omega (arith, c.before.before.loop-test.true)
 
 loop-again : tie.Need-loop-preserved invariant-loop decreases-loop
-loop-again c = planted-one c.before.before.before.before.before.before.args.n c.before.before.before.before.before.before.args.counters.now c.before.before.before.before.before.before.args.tree.now c.before.before.before.loop.tree c.before.before.before.loop.r c.before.before.before.loop.invariant c.leaf.result c.leaf.ensures (omega (arith, c.before.before.loop-test.true, c.before.before.before.before.before.before.requires.2, c.before.before.before.loop.invariant.size))
+loop-again c = planted_one c.before.before.before.before.before.before.args.n c.before.before.before.before.before.before.args.counters.now c.before.before.before.before.before.before.args.tree.now c.before.before.before.loop.tree c.before.before.before.loop.r c.before.before.before.loop.invariant c.leaf.result c.leaf.ensures (omega (arith, c.before.before.loop-test.true, c.before.before.before.before.before.before.requires.2, c.before.before.before.loop.invariant.size))
 
 build-requires : tie.Need-build-requires invariant-loop decreases-loop
-build-requires c κs = all-leaves c.before.before.before.before.before.args.n c.before.before.before.before.before.args.counters.now c.before.before.before.before.before.args.tree.now c.before.before.loop.tree c.before.before.loop.r c.before.before.loop.invariant c.before.loop-test.false c.before.before.before.before.before.requires.0 c.before.before.before.before.before.requires.2 c.before.before.before.before.before.requires.3
+build-requires c κs = all_leaves c.before.before.before.before.before.args.n c.before.before.before.before.before.args.counters.now c.before.before.before.before.before.args.tree.now c.before.before.loop.tree c.before.before.loop.r c.before.before.loop.invariant c.before.loop-test.false c.before.before.before.before.before.requires.0 c.before.before.before.before.before.requires.2 c.before.before.before.before.before.requires.3
 
 same_length : tie.Need-same-length invariant-loop decreases-loop
 same_length c = c.before.tree.given ∙ c.before.before.before.before.before.loop.invariant.size

@@ -1,6 +1,6 @@
 -- `release` meets its contract.
 use native.Mathlib.Omega.{arith}
-use Rattle.order.proofs.Releasing.{release-came, release-fell}
+use Rattle.order.proofs.Releasing.{release_came, release_fell}
 use borrow.Author.Rules.{rules}
 use borrow.Author.Rules.{rules}
 use Rattle.order.proofs.release.Statement.{statement}
@@ -31,13 +31,13 @@ same-length-2 : tie.Need-same-length-2
 same-length-2 c = search rules
 
 returns : tie.Need-returns
-returns c = release-came c.before.before.before.before.before.before.before.before.args.n c.before.before.before.before.before.before.before.before.args.u c.before.before.before.before.before.before.before.before.args.counters.now c.before.before.before.before.before.before.before.before.args.tree.now _ _ (omega (arith, c.before.before.before.before.before.before.before.before.requires.1.2)) c.before.before.before.before.if1.true c.before.before.put.ensures
+returns c = release_came c.before.before.before.before.before.before.before.before.args.n c.before.before.before.before.before.before.before.before.args.u c.before.before.before.before.before.before.before.before.args.counters.now c.before.before.before.before.before.before.before.before.args.tree.now _ _ (omega (arith, c.before.before.before.before.before.before.before.before.requires.1.2)) c.before.before.before.before.if1.true c.before.before.put.ensures
 
 same-length-3 : tie.Need-same-length-3
 same-length-3 c = search rules
 
 returns-2 : tie.Need-returns-2
-returns-2 c = release-fell c.before.before.before.before.args.n c.before.before.before.before.args.u c.before.before.before.before.args.counters.now c.before.before.before.before.args.tree.now _ c.before.before.before.before.requires.1.2 (omega (arith, c.before.before.before.before.requires.1.2)) c.if1.false
+returns-2 c = release_fell c.before.before.before.before.args.n c.before.before.before.before.args.u c.before.before.before.before.args.counters.now c.before.before.before.before.args.tree.now _ c.before.before.before.before.requires.1.2 (omega (arith, c.before.before.before.before.requires.1.2)) c.if1.false
 
 pub release_spec : {M : Type 1} → statement M
 release_spec =

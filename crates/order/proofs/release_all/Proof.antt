@@ -3,7 +3,7 @@ use native.Mathlib.Omega.{arith}
 use mathlib.Core.Path.{◌≡◌, refl, sym, subst, ◌∙◌}
 use Prim.Native.Nat.{ℕ}
 use lib.ListN.{length, get_or}
-use Rattle.order.proofs.Releasing.{next-less, released-all, released-on, upper-absent, upper-counted, upper-number}
+use Rattle.order.proofs.Releasing.{next_less, released_all, released_on, upper_absent, upper_counted, upper_number}
 use mathlib.Core.List.{List}
 use Rattle.order.specs.Steps.{Scene, Taken}
 use borrow.Author.Rules.{rules}
@@ -38,7 +38,7 @@ wide-requires-2 : tie.Need-wide-requires-2 invariant-loop decreases-loop
 wide-requires-2 c κs = search rules
 
 release-requires : tie.Need-release-requires invariant-loop decreases-loop
-release-requires c κs = ((c.before.before.before.before.before.loop.invariant.2 c.before.before.before.before.before.before.before.before.before.before.before.before.before.requires.0 c.before.before.before.before.before.before.before.before.before.before.before.before.before.requires.1 c.before.before.before.before.before.before.before.before.before.before.before.before.before.requires.2 c.before.before.before.before.before.before.before.before.before.before.before.before.before.requires.3).board, (rw c.before.before.wide2.ensures (upper-number c.before.before.before.before.before.before.before.before.before.before.before.before.before.requires.1 c.before.before.before.before.before.before.before.before.before.before.before.before.before.requires.2 c.before.before.before.before.before.before.before.before.before.before.before.before.before.args.r c.before.before.before.before.before.loop.link c.before.before.before.before.before.loop.counters c.before.before.before.before.before.loop.tree (c.before.before.before.before.before.loop.invariant.2 c.before.before.before.before.before.before.before.before.before.before.before.before.before.requires.0 c.before.before.before.before.before.before.before.before.before.before.before.before.before.requires.1 c.before.before.before.before.before.before.before.before.before.before.before.before.before.requires.2 c.before.before.before.before.before.before.before.before.before.before.before.before.before.requires.3) c.before.before.before.before.loop-test.true), (c.before.before.before.before.before.loop.invariant.2 c.before.before.before.before.before.before.before.before.before.before.before.before.before.requires.0 c.before.before.before.before.before.before.before.before.before.before.before.before.before.requires.1 c.before.before.before.before.before.before.before.before.before.before.before.before.before.requires.2 c.before.before.before.before.before.before.before.before.before.before.before.before.before.requires.3).long, rw c.before.before.wide2.ensures (upper-counted c.before.before.before.before.before.before.before.before.before.before.before.before.before.requires.1 c.before.before.before.before.before.before.before.before.before.before.before.before.before.requires.2 c.before.before.before.before.before.before.before.before.before.before.before.before.before.args.r c.before.before.before.before.before.loop.link c.before.before.before.before.before.loop.counters c.before.before.before.before.before.loop.tree (c.before.before.before.before.before.loop.invariant.2 c.before.before.before.before.before.before.before.before.before.before.before.before.before.requires.0 c.before.before.before.before.before.before.before.before.before.before.before.before.before.requires.1 c.before.before.before.before.before.before.before.before.before.before.before.before.before.requires.2 c.before.before.before.before.before.before.before.before.before.before.before.before.before.requires.3) c.before.before.before.before.loop-test.true), rw c.before.before.wide2.ensures (upper-absent c.before.before.before.before.before.before.before.before.before.before.before.before.before.requires.1 c.before.before.before.before.before.before.before.before.before.before.before.before.before.requires.2 c.before.before.before.before.before.before.before.before.before.before.before.before.before.args.r c.before.before.before.before.before.loop.link c.before.before.before.before.before.loop.counters c.before.before.before.before.before.loop.tree (c.before.before.before.before.before.loop.invariant.2 c.before.before.before.before.before.before.before.before.before.before.before.before.before.requires.0 c.before.before.before.before.before.before.before.before.before.before.before.before.before.requires.1 c.before.before.before.before.before.before.before.before.before.before.before.before.before.requires.2 c.before.before.before.before.before.before.before.before.before.before.before.before.before.requires.3) c.before.before.before.before.loop-test.true)))
+release-requires c κs = ((c.before.before.before.before.before.loop.invariant.2 c.before.before.before.before.before.before.before.before.before.before.before.before.before.requires.0 c.before.before.before.before.before.before.before.before.before.before.before.before.before.requires.1 c.before.before.before.before.before.before.before.before.before.before.before.before.before.requires.2 c.before.before.before.before.before.before.before.before.before.before.before.before.before.requires.3).board, (rw c.before.before.wide2.ensures (upper_number c.before.before.before.before.before.before.before.before.before.before.before.before.before.requires.1 c.before.before.before.before.before.before.before.before.before.before.before.before.before.requires.2 c.before.before.before.before.before.before.before.before.before.before.before.before.before.args.r c.before.before.before.before.before.loop.link c.before.before.before.before.before.loop.counters c.before.before.before.before.before.loop.tree (c.before.before.before.before.before.loop.invariant.2 c.before.before.before.before.before.before.before.before.before.before.before.before.before.requires.0 c.before.before.before.before.before.before.before.before.before.before.before.before.before.requires.1 c.before.before.before.before.before.before.before.before.before.before.before.before.before.requires.2 c.before.before.before.before.before.before.before.before.before.before.before.before.before.requires.3) c.before.before.before.before.loop-test.true), (c.before.before.before.before.before.loop.invariant.2 c.before.before.before.before.before.before.before.before.before.before.before.before.before.requires.0 c.before.before.before.before.before.before.before.before.before.before.before.before.before.requires.1 c.before.before.before.before.before.before.before.before.before.before.before.before.before.requires.2 c.before.before.before.before.before.before.before.before.before.before.before.before.before.requires.3).long, rw c.before.before.wide2.ensures (upper_counted c.before.before.before.before.before.before.before.before.before.before.before.before.before.requires.1 c.before.before.before.before.before.before.before.before.before.before.before.before.before.requires.2 c.before.before.before.before.before.before.before.before.before.before.before.before.before.args.r c.before.before.before.before.before.loop.link c.before.before.before.before.before.loop.counters c.before.before.before.before.before.loop.tree (c.before.before.before.before.before.loop.invariant.2 c.before.before.before.before.before.before.before.before.before.before.before.before.before.requires.0 c.before.before.before.before.before.before.before.before.before.before.before.before.before.requires.1 c.before.before.before.before.before.before.before.before.before.before.before.before.before.requires.2 c.before.before.before.before.before.before.before.before.before.before.before.before.before.requires.3) c.before.before.before.before.loop-test.true), rw c.before.before.wide2.ensures (upper_absent c.before.before.before.before.before.before.before.before.before.before.before.before.before.requires.1 c.before.before.before.before.before.before.before.before.before.before.before.before.before.requires.2 c.before.before.before.before.before.before.before.before.before.before.before.before.before.args.r c.before.before.before.before.before.loop.link c.before.before.before.before.before.loop.counters c.before.before.before.before.before.loop.tree (c.before.before.before.before.before.loop.invariant.2 c.before.before.before.before.before.before.before.before.before.before.before.before.before.requires.0 c.before.before.before.before.before.before.before.before.before.before.before.before.before.requires.1 c.before.before.before.before.before.before.before.before.before.before.before.before.before.requires.2 c.before.before.before.before.before.before.before.before.before.before.before.before.before.requires.3) c.before.before.before.before.loop-test.true)))
 
 mul-wide-3 : tie.Need-overflow-mul-wide-3 invariant-loop decreases-loop
 mul-wide-3 c = omega (arith, (c.before.before.before.before.before.before.before.before.before.before.loop.invariant.2 c.before.before.before.before.before.before.before.before.before.before.before.before.before.before.before.before.before.before.requires.0 c.before.before.before.before.before.before.before.before.before.before.before.before.before.before.before.before.before.before.requires.1 c.before.before.before.before.before.before.before.before.before.before.before.before.before.before.before.before.before.before.requires.2 c.before.before.before.before.before.before.before.before.before.before.before.before.before.before.before.before.before.before.requires.3).low, c.before.before.before.before.before.before.before.before.before.before.before.before.before.before.before.before.before.before.requires.1.rows)
@@ -50,10 +50,10 @@ wide-requires-3 : tie.Need-wide-requires-3 invariant-loop decreases-loop
 wide-requires-3 c κs = search rules
 
 loop-less : tie.Need-loop-smaller invariant-loop decreases-loop
-loop-less c = rw c.wide3.ensures (next-less c.before.before.before.before.before.before.before.before.before.before.before.before.before.before.before.before.before.before.before.before.requires.1 c.before.before.before.before.before.before.before.before.before.before.before.before.before.before.before.before.before.before.before.before.requires.2 c.before.before.before.before.before.before.before.before.before.before.before.before.before.before.before.before.before.before.before.before.args.r c.before.before.before.before.before.before.before.before.before.before.before.before.loop.link c.before.before.before.before.before.before.before.before.before.before.before.before.loop.counters c.before.before.before.before.before.before.before.before.before.before.before.before.loop.tree (c.before.before.before.before.before.before.before.before.before.before.before.before.loop.invariant.2 c.before.before.before.before.before.before.before.before.before.before.before.before.before.before.before.before.before.before.before.before.requires.0 c.before.before.before.before.before.before.before.before.before.before.before.before.before.before.before.before.before.before.before.before.requires.1 c.before.before.before.before.before.before.before.before.before.before.before.before.before.before.before.before.before.before.before.before.requires.2 c.before.before.before.before.before.before.before.before.before.before.before.before.before.before.before.before.before.before.before.before.requires.3) c.before.before.before.before.before.before.before.before.before.before.before.loop-test.true)
+loop-less c = rw c.wide3.ensures (next_less c.before.before.before.before.before.before.before.before.before.before.before.before.before.before.before.before.before.before.before.before.requires.1 c.before.before.before.before.before.before.before.before.before.before.before.before.before.before.before.before.before.before.before.before.requires.2 c.before.before.before.before.before.before.before.before.before.before.before.before.before.before.before.before.before.before.before.before.args.r c.before.before.before.before.before.before.before.before.before.before.before.before.loop.link c.before.before.before.before.before.before.before.before.before.before.before.before.loop.counters c.before.before.before.before.before.before.before.before.before.before.before.before.loop.tree (c.before.before.before.before.before.before.before.before.before.before.before.before.loop.invariant.2 c.before.before.before.before.before.before.before.before.before.before.before.before.before.before.before.before.before.before.before.before.requires.0 c.before.before.before.before.before.before.before.before.before.before.before.before.before.before.before.before.before.before.before.before.requires.1 c.before.before.before.before.before.before.before.before.before.before.before.before.before.before.before.before.before.before.before.before.requires.2 c.before.before.before.before.before.before.before.before.before.before.before.before.before.before.before.before.before.before.before.before.requires.3) c.before.before.before.before.before.before.before.before.before.before.before.loop-test.true)
 
 loop-again : tie.Need-loop-preserved invariant-loop decreases-loop
-loop-again c = (c.before.before.before.before.before.counters.given ∙ c.before.before.before.before.before.before.before.before.before.before.before.before.loop.invariant.0, c.before.before.before.tree.given ∙ c.before.before.before.before.before.before.before.before.before.before.before.before.loop.invariant.1, λ keys d out t. released-on d out c.before.before.before.before.before.before.before.before.before.before.before.before.before.before.before.before.before.before.before.before.args.r c.before.before.before.before.before.before.before.before.before.before.before.before.loop.link c.before.before.before.before.before.before.before.before.before.before.before.before.loop.counters c.before.before.before.before.before.before.before.before.before.before.before.before.loop.tree (c.before.before.before.before.before.before.before.before.before.before.before.before.loop.invariant.2 keys d out t) c.before.before.before.before.before.before.before.before.before.before.before.loop-test.true c.before.before.before.before.before.before.before.before.before.wide2.result c.wide3.result c.before.before.before.before.before.before.before.before.before.wide2.ensures c.wide3.ensures _ _ c.before.before.before.before.before.before.release.ensures)
+loop-again c = (c.before.before.before.before.before.counters.given ∙ c.before.before.before.before.before.before.before.before.before.before.before.before.loop.invariant.0, c.before.before.before.tree.given ∙ c.before.before.before.before.before.before.before.before.before.before.before.before.loop.invariant.1, λ keys d out t. released_on d out c.before.before.before.before.before.before.before.before.before.before.before.before.before.before.before.before.before.before.before.before.args.r c.before.before.before.before.before.before.before.before.before.before.before.before.loop.link c.before.before.before.before.before.before.before.before.before.before.before.before.loop.counters c.before.before.before.before.before.before.before.before.before.before.before.before.loop.tree (c.before.before.before.before.before.before.before.before.before.before.before.before.loop.invariant.2 keys d out t) c.before.before.before.before.before.before.before.before.before.before.before.loop-test.true c.before.before.before.before.before.before.before.before.before.wide2.result c.wide3.result c.before.before.before.before.before.before.before.before.before.wide2.ensures c.wide3.ensures _ _ c.before.before.before.before.before.before.release.ensures)
 
 same_length : tie.Need-same-length invariant-loop decreases-loop
 same_length c = c.before.loop.invariant.0
@@ -62,7 +62,7 @@ same-length-2 : tie.Need-same-length-2 invariant-loop decreases-loop
 same-length-2 c = c.before.loop.invariant.1
 
 returns : tie.Need-returns invariant-loop decreases-loop
-returns c = λ keys d out t. released-all d out c.before.before.before.before.before.before.before.before.before.args.r c.before.loop.link c.before.loop.counters c.before.loop.tree (c.before.loop.invariant.2 keys d out t) (omega (arith, c.loop-test.false))
+returns c = λ keys d out t. released_all d out c.before.before.before.before.before.before.before.before.before.args.r c.before.loop.link c.before.loop.counters c.before.loop.tree (c.before.loop.invariant.2 keys d out t) (omega (arith, c.loop-test.false))
 
 pub release-all-spec : {M : Type 1} → statement M
 release-all-spec =

@@ -2,8 +2,8 @@
 use borrow.Author.Rules.{rules}
 use borrow.Author.Tests.{not-true, not-false}
 use native.Mathlib.Omega.{arith}
-use Rattle.shared.proofs.Labels.{tells-iff}
-use Rattle.pairs.proofs.Lowest.{no_rows, lone-open, lone-hidden, pair-differs, pair-nested, pair-open, pair-hidden}
+use Rattle.shared.proofs.Labels.{tells_iff}
+use Rattle.pairs.proofs.Lowest.{no_rows, lone_open, lone_hidden, pair_differs, pair_nested, pair_open, pair_hidden}
 use Rattle.pairs.proofs.cause.Statement.{statement}
 use Rattle.pairs.proofs.cause.Tie as tie
 
@@ -23,10 +23,10 @@ shared-slice-read-if3 : tie.Need-shared-slice-read-if3
 shared-slice-read-if3 c = search rules
 
 returns-2 : tie.Need-returns-2
-returns-2 c = lone-open c.before.before.before.before.before.before.before.before.args.actions.now c.before.before.before.before.before.before.before.before.args.ends.now c.before.before.before.before.before.before.before.before.args.scopes.now c.before.before.before.before.before.before.before.before.args.a c.before.before.before.before.before.before.before.before.args.b c.before.before.before.wide.result c.before.before.before.wide.ensures c.before.before.before.before.if1.false c.before.before.if2.true c.if3.true
+returns-2 c = lone_open c.before.before.before.before.before.before.before.before.args.actions.now c.before.before.before.before.before.before.before.before.args.ends.now c.before.before.before.before.before.before.before.before.args.scopes.now c.before.before.before.before.before.before.before.before.args.a c.before.before.before.before.before.before.before.before.args.b c.before.before.before.wide.result c.before.before.before.wide.ensures c.before.before.before.before.if1.false c.before.before.if2.true c.if3.true
 
 returns-3 : tie.Need-returns-3
-returns-3 c = lone-hidden c.before.before.before.before.before.before.before.before.args.actions.now c.before.before.before.before.before.before.before.before.args.ends.now c.before.before.before.before.before.before.before.before.args.scopes.now c.before.before.before.before.before.before.before.before.args.a c.before.before.before.before.before.before.before.before.args.b c.before.before.before.wide.result c.before.before.before.wide.ensures c.before.before.before.before.if1.false c.before.before.if2.true c.if3.false
+returns-3 c = lone_hidden c.before.before.before.before.before.before.before.before.args.actions.now c.before.before.before.before.before.before.before.before.args.ends.now c.before.before.before.before.before.before.before.before.args.scopes.now c.before.before.before.before.before.before.before.before.args.a c.before.before.before.before.before.before.before.before.args.b c.before.before.before.wide.result c.before.before.before.wide.ensures c.before.before.before.before.if1.false c.before.before.if2.true c.if3.false
 
 wide-requires-2 : tie.Need-wide-requires-2
 wide-requires-2 c κs = search rules
@@ -44,7 +44,7 @@ complementary-requires : tie.Need-complementary-requires
 complementary-requires c κs = search rules
 
 returns-4 : tie.Need-returns-4
-returns-4 c = pair-differs c.before.before.before.before.before.before.before.before.before.before.before.args.actions.now c.before.before.before.before.before.before.before.before.before.before.before.args.ends.now c.before.before.before.before.before.before.before.before.before.before.before.args.scopes.now c.before.before.before.before.before.before.before.before.before.before.before.args.a c.before.before.before.before.before.before.before.before.before.before.before.args.b c.before.before.before.before.before.before.wide.result c.before.before.before.before.before.before.wide.ensures c.before.before.before.before.before.before.before.if1.false c.before.before.before.before.wide2.result c.before.before.before.before.wide2.ensures c.before.before.before.before.before.if2.false c.before.complementary.result (tells-iff _ c.before.complementary.ensures) (not-true c.before.complementary.result c.if4.true)
+returns-4 c = pair_differs c.before.before.before.before.before.before.before.before.before.before.before.args.actions.now c.before.before.before.before.before.before.before.before.before.before.before.args.ends.now c.before.before.before.before.before.before.before.before.before.before.before.args.scopes.now c.before.before.before.before.before.before.before.before.before.before.before.args.a c.before.before.before.before.before.before.before.before.before.before.before.args.b c.before.before.before.before.before.before.wide.result c.before.before.before.before.before.before.wide.ensures c.before.before.before.before.before.before.before.if1.false c.before.before.before.before.wide2.result c.before.before.before.before.wide2.ensures c.before.before.before.before.before.if2.false c.before.complementary.result (tells_iff _ c.before.complementary.ensures) (not-true c.before.complementary.result c.if4.true)
 
 mul_wide : tie.Need-overflow-mul-wide
 mul_wide c = search rules
@@ -56,7 +56,7 @@ wide-requires-3 : tie.Need-wide-requires-3
 wide-requires-3 c κs = search rules
 
 returns-5 : tie.Need-returns-5
-returns-5 c = pair-nested c.before.before.before.before.before.before.before.before.before.before.before.before.before.before.args.actions.now c.before.before.before.before.before.before.before.before.before.before.before.before.before.before.args.ends.now c.before.before.before.before.before.before.before.before.before.before.before.before.before.before.args.scopes.now c.before.before.before.before.before.before.before.before.before.before.before.before.before.before.args.a c.before.before.before.before.before.before.before.before.before.before.before.before.before.before.args.b c.before.before.before.before.before.before.before.before.before.wide.result c.before.before.before.before.before.before.before.before.before.wide.ensures c.before.before.before.before.before.before.before.before.before.before.if1.false c.before.before.before.before.before.before.before.wide2.result c.before.before.before.before.before.before.before.wide2.ensures c.before.before.before.before.before.before.before.before.if2.false c.before.before.before.before.complementary.result (tells-iff _ c.before.before.before.before.complementary.ensures) (not-false c.before.before.before.before.complementary.result c.before.before.before.if4.false) c.before.wide3.result c.before.wide3.ensures (omega arith)
+returns-5 c = pair_nested c.before.before.before.before.before.before.before.before.before.before.before.before.before.before.args.actions.now c.before.before.before.before.before.before.before.before.before.before.before.before.before.before.args.ends.now c.before.before.before.before.before.before.before.before.before.before.before.before.before.before.args.scopes.now c.before.before.before.before.before.before.before.before.before.before.before.before.before.before.args.a c.before.before.before.before.before.before.before.before.before.before.before.before.before.before.args.b c.before.before.before.before.before.before.before.before.before.wide.result c.before.before.before.before.before.before.before.before.before.wide.ensures c.before.before.before.before.before.before.before.before.before.before.if1.false c.before.before.before.before.before.before.before.wide2.result c.before.before.before.before.before.before.before.wide2.ensures c.before.before.before.before.before.before.before.before.if2.false c.before.before.before.before.complementary.result (tells_iff _ c.before.before.before.before.complementary.ensures) (not-false c.before.before.before.before.complementary.result c.before.before.before.if4.false) c.before.wide3.result c.before.wide3.ensures (omega arith)
 
 mul-if6 : tie.Need-overflow-mul-if6
 mul-if6 c = search rules
@@ -71,10 +71,10 @@ shared-slice-read-if6-2 : tie.Need-shared-slice-read-if6-2
 shared-slice-read-if6-2 c = search rules
 
 returns-6 : tie.Need-returns-6
-returns-6 c = pair-open c.before.before.before.before.before.before.before.before.before.before.before.before.before.before.before.before.before.args.actions.now c.before.before.before.before.before.before.before.before.before.before.before.before.before.before.before.before.before.args.ends.now c.before.before.before.before.before.before.before.before.before.before.before.before.before.before.before.before.before.args.scopes.now c.before.before.before.before.before.before.before.before.before.before.before.before.before.before.before.before.before.args.a c.before.before.before.before.before.before.before.before.before.before.before.before.before.before.before.before.before.args.b c.before.before.before.before.before.before.before.before.before.before.before.before.wide.result c.before.before.before.before.before.before.before.before.before.before.before.before.wide.ensures c.before.before.before.before.before.before.before.before.before.before.before.before.before.if1.false c.before.before.before.before.before.before.before.before.before.before.wide2.result c.before.before.before.before.before.before.before.before.before.before.wide2.ensures c.before.before.before.before.before.before.before.before.before.before.before.if2.false c.before.before.before.before.before.before.before.complementary.result (tells-iff _ c.before.before.before.before.before.before.before.complementary.ensures) (not-false c.before.before.before.before.before.before.before.complementary.result c.before.before.before.before.before.before.if4.false) c.before.before.before.before.wide3.result c.before.before.before.before.wide3.ensures (omega arith) c.if6.true
+returns-6 c = pair_open c.before.before.before.before.before.before.before.before.before.before.before.before.before.before.before.before.before.args.actions.now c.before.before.before.before.before.before.before.before.before.before.before.before.before.before.before.before.before.args.ends.now c.before.before.before.before.before.before.before.before.before.before.before.before.before.before.before.before.before.args.scopes.now c.before.before.before.before.before.before.before.before.before.before.before.before.before.before.before.before.before.args.a c.before.before.before.before.before.before.before.before.before.before.before.before.before.before.before.before.before.args.b c.before.before.before.before.before.before.before.before.before.before.before.before.wide.result c.before.before.before.before.before.before.before.before.before.before.before.before.wide.ensures c.before.before.before.before.before.before.before.before.before.before.before.before.before.if1.false c.before.before.before.before.before.before.before.before.before.before.wide2.result c.before.before.before.before.before.before.before.before.before.before.wide2.ensures c.before.before.before.before.before.before.before.before.before.before.before.if2.false c.before.before.before.before.before.before.before.complementary.result (tells_iff _ c.before.before.before.before.before.before.before.complementary.ensures) (not-false c.before.before.before.before.before.before.before.complementary.result c.before.before.before.before.before.before.if4.false) c.before.before.before.before.wide3.result c.before.before.before.before.wide3.ensures (omega arith) c.if6.true
 
 returns-7 : tie.Need-returns-7
-returns-7 c = pair-hidden c.before.before.before.before.before.before.before.before.before.before.before.before.before.before.before.before.before.args.actions.now c.before.before.before.before.before.before.before.before.before.before.before.before.before.before.before.before.before.args.ends.now c.before.before.before.before.before.before.before.before.before.before.before.before.before.before.before.before.before.args.scopes.now c.before.before.before.before.before.before.before.before.before.before.before.before.before.before.before.before.before.args.a c.before.before.before.before.before.before.before.before.before.before.before.before.before.before.before.before.before.args.b c.before.before.before.before.before.before.before.before.before.before.before.before.wide.result c.before.before.before.before.before.before.before.before.before.before.before.before.wide.ensures c.before.before.before.before.before.before.before.before.before.before.before.before.before.if1.false c.before.before.before.before.before.before.before.before.before.before.wide2.result c.before.before.before.before.before.before.before.before.before.before.wide2.ensures c.before.before.before.before.before.before.before.before.before.before.before.if2.false c.before.before.before.before.before.before.before.complementary.result (tells-iff _ c.before.before.before.before.before.before.before.complementary.ensures) (not-false c.before.before.before.before.before.before.before.complementary.result c.before.before.before.before.before.before.if4.false) c.before.before.before.before.wide3.result c.before.before.before.before.wide3.ensures (omega arith) c.if6.false
+returns-7 c = pair_hidden c.before.before.before.before.before.before.before.before.before.before.before.before.before.before.before.before.before.args.actions.now c.before.before.before.before.before.before.before.before.before.before.before.before.before.before.before.before.before.args.ends.now c.before.before.before.before.before.before.before.before.before.before.before.before.before.before.before.before.before.args.scopes.now c.before.before.before.before.before.before.before.before.before.before.before.before.before.before.before.before.before.args.a c.before.before.before.before.before.before.before.before.before.before.before.before.before.before.before.before.before.args.b c.before.before.before.before.before.before.before.before.before.before.before.before.wide.result c.before.before.before.before.before.before.before.before.before.before.before.before.wide.ensures c.before.before.before.before.before.before.before.before.before.before.before.before.before.if1.false c.before.before.before.before.before.before.before.before.before.before.wide2.result c.before.before.before.before.before.before.before.before.before.before.wide2.ensures c.before.before.before.before.before.before.before.before.before.before.before.if2.false c.before.before.before.before.before.before.before.complementary.result (tells_iff _ c.before.before.before.before.before.before.before.complementary.ensures) (not-false c.before.before.before.before.before.before.before.complementary.result c.before.before.before.before.before.before.if4.false) c.before.before.before.before.wide3.result c.before.before.before.before.wide3.ensures (omega arith) c.if6.false
 
 pub cause-spec : {M : Type 1} → statement M
 cause-spec =

@@ -5,7 +5,7 @@ use mathlib.Core.Logic.{⊎_elim}
 use Prim.Native.Nat.{◌≤◌, ◌-◌}
 use lib.ListN.{length}
 use Rattle.pairs.specs.Cause.{CauseBelow}
-use Rattle.pairs.proofs.Lowest.{none_below, one_lower, one-not-lower, all-below}
+use Rattle.pairs.proofs.Lowest.{none_below, one_lower, one_not_lower, all_below}
 use Rattle.pairs.proofs.causes.Statement.{statement}
 use Rattle.pairs.proofs.causes.Tie as tie
 
@@ -40,10 +40,10 @@ loop-less : tie.Need-loop-smaller invariant-loop decreases-loop
 loop-less c = search rules
 
 loop-again : tie.Need-loop-preserved invariant-loop decreases-loop
-loop-again c = ⊎_elim (λ w. (omega arith, rw w.1 (one_lower c.before.before.before.before.before.before.before.before.before.before.before.args.actions.now c.before.before.before.before.before.before.before.before.before.before.before.args.ends.now c.before.before.before.before.before.before.before.before.before.before.before.args.scopes.now c.before.before.before.before.before.before.before.before.before.before.before.args.first.now c.before.before.before.before.before.before.before.before.before.before.before.args.second.now c.before.before.before.before.before.loop.k c.before.before.before.before.before.loop.least c.before.cause.result c.before.before.before.before.before.loop.invariant.1 c.before.cause.ensures w.0.taken))) (λ w. (omega arith, rw w.1 (one-not-lower c.before.before.before.before.before.before.before.before.before.before.before.args.actions.now c.before.before.before.before.before.before.before.before.before.before.before.args.ends.now c.before.before.before.before.before.before.before.before.before.before.before.args.scopes.now c.before.before.before.before.before.before.before.before.before.before.before.args.first.now c.before.before.before.before.before.before.before.before.before.before.before.args.second.now c.before.before.before.before.before.loop.k c.before.before.before.before.before.loop.least c.before.cause.result c.before.before.before.before.before.loop.invariant.1 c.before.cause.ensures w.0.left))) c.if1.branch
+loop-again c = ⊎_elim (λ w. (omega arith, rw w.1 (one_lower c.before.before.before.before.before.before.before.before.before.before.before.args.actions.now c.before.before.before.before.before.before.before.before.before.before.before.args.ends.now c.before.before.before.before.before.before.before.before.before.before.before.args.scopes.now c.before.before.before.before.before.before.before.before.before.before.before.args.first.now c.before.before.before.before.before.before.before.before.before.before.before.args.second.now c.before.before.before.before.before.loop.k c.before.before.before.before.before.loop.least c.before.cause.result c.before.before.before.before.before.loop.invariant.1 c.before.cause.ensures w.0.taken))) (λ w. (omega arith, rw w.1 (one_not_lower c.before.before.before.before.before.before.before.before.before.before.before.args.actions.now c.before.before.before.before.before.before.before.before.before.before.before.args.ends.now c.before.before.before.before.before.before.before.before.before.before.before.args.scopes.now c.before.before.before.before.before.before.before.before.before.before.before.args.first.now c.before.before.before.before.before.before.before.before.before.before.before.args.second.now c.before.before.before.before.before.loop.k c.before.before.before.before.before.loop.least c.before.cause.result c.before.before.before.before.before.loop.invariant.1 c.before.cause.ensures w.0.left))) c.if1.branch
 
 returns : tie.Need-returns invariant-loop decreases-loop
-returns c = all-below c.before.before.before.before.before.before.before.args.actions.now c.before.before.before.before.before.before.before.args.ends.now c.before.before.before.before.before.before.before.args.scopes.now c.before.before.before.before.before.before.before.args.first.now c.before.before.before.before.before.before.before.args.second.now c.before.loop.k c.before.loop.least (omega arith) c.before.loop.invariant.0 c.before.loop.invariant.1
+returns c = all_below c.before.before.before.before.before.before.before.args.actions.now c.before.before.before.before.before.before.before.args.ends.now c.before.before.before.before.before.before.before.args.scopes.now c.before.before.before.before.before.before.before.args.first.now c.before.before.before.before.before.before.before.args.second.now c.before.loop.k c.before.loop.least (omega arith) c.before.loop.invariant.0 c.before.loop.invariant.1
 
 pub causes-spec : {M : Type 1} → statement M
 causes-spec =

@@ -1,5 +1,5 @@
 -- `enter` meets its contract: each way through the code is one of the three cases.
-use Rattle.pairs.specs.Answer.{as_first, as-second, as-third}
+use Rattle.pairs.specs.Answer.{as_first, as_second, as_third}
 use borrow.Author.Rules.{rules}
 use Rattle.pairs.proofs.enter.Statement.{statement}
 use Rattle.pairs.proofs.enter.Tie as tie
@@ -32,7 +32,7 @@ slice-read-if2 : tie.Need-slice-read-if2
 slice-read-if2 c = search rules
 
 returns-2 : tie.Need-returns-2
-returns-2 c = as-third c.before.before.if1.false c.if2.true
+returns-2 c = as_third c.before.before.if1.false c.if2.true
 
 add-second : tie.Need-overflow-add-second
 add-second c = search rules
@@ -47,7 +47,7 @@ same-length-2 : tie.Need-same-length-2
 same-length-2 c = search rules
 
 returns-3 : tie.Need-returns-3
-returns-3 c = as-second c.before.before.if1.false c.if2.false
+returns-3 c = as_second c.before.before.if1.false c.if2.false
 
 pub enter_spec : {M : Type 1} → statement M
 enter_spec =

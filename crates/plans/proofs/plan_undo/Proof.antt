@@ -1,8 +1,8 @@
 -- `plan_undo` meets its contract: each return is one law of Plans about what the pass found.
 use native.Mathlib.Omega.{arith}
 use Rattle.operations.specs.Change.{UndoStep.unreadable}
-use Rattle.reader.proofs.Whole.{slice-bytes}
-use Rattle.plans.proofs.Plans.{whole-refused, whole-seen, undo-zero, undo-absent, undo-one, undo-two, undo-still, undo-stuck}
+use Rattle.reader.proofs.Whole.{slice_bytes}
+use Rattle.plans.proofs.Plans.{whole_refused, whole_seen, undo_zero, undo_absent, undo_one, undo_two, undo_still, undo_stuck}
 use borrow.Author.Rules.{rules}
 use Rattle.plans.proofs.plan_undo.Statement.{statement}
 use Rattle.plans.proofs.plan_undo.Tie as tie
@@ -17,16 +17,16 @@ enum-known-seen : tie.Need-enum-known-seen
 enum-known-seen c = search rules
 
 returns : tie.Need-returns
-returns c = let n = c.before.before.before.before in let a = n.before.before.args in let w = n.survey-all in undo-zero a.s.now (slice-bytes a.s.now (λ i. omega (arith, n.before.shared-slice-known.given i))) a.key _ (whole-seen a.s.now _ w.result w.ensures _ c.before.before.seen.given.1) c.if1.true
+returns c = let n = c.before.before.before.before in let a = n.before.before.args in let w = n.survey-all in undo_zero a.s.now (slice_bytes a.s.now (λ i. omega (arith, n.before.shared-slice-known.given i))) a.key _ (whole_seen a.s.now _ w.result w.ensures _ c.before.before.seen.given.1) c.if1.true
 
 returns-2 : tie.Need-returns-2
-returns-2 c = let n = c.before.before.before.before.before.before in let a = n.before.before.args in let w = n.survey-all in undo-absent a.s.now (slice-bytes a.s.now (λ i. omega (arith, n.before.shared-slice-known.given i))) a.key _ (whole-seen a.s.now _ w.result w.ensures _ c.before.before.before.before.seen.given.1) c.before.before.if1.false c.if2.true
+returns-2 c = let n = c.before.before.before.before.before.before in let a = n.before.before.args in let w = n.survey-all in undo_absent a.s.now (slice_bytes a.s.now (λ i. omega (arith, n.before.shared-slice-known.given i))) a.key _ (whole_seen a.s.now _ w.result w.ensures _ c.before.before.before.before.seen.given.1) c.before.before.if1.false c.if2.true
 
 enum-known-moved : tie.Need-enum-known-moved
 enum-known-moved c = search rules
 
 returns-3 : tie.Need-returns-3
-returns-3 c = let n = c.before.before.before.before.before.before.before.before.before.before.before in let a = n.before.before.args in let w = n.survey-all in undo-one a.s.now (slice-bytes a.s.now (λ i. omega (arith, n.before.shared-slice-known.given i))) a.key _ (whole-seen a.s.now _ w.result w.ensures _ c.before.before.before.before.before.before.before.before.before.seen.given.1) c.before.before.before.before.before.before.before.if1.false _ c.before.before.before.moved.given.1 c.if3.true
+returns-3 c = let n = c.before.before.before.before.before.before.before.before.before.before.before in let a = n.before.before.args in let w = n.survey-all in undo_one a.s.now (slice_bytes a.s.now (λ i. omega (arith, n.before.shared-slice-known.given i))) a.key _ (whole_seen a.s.now _ w.result w.ensures _ c.before.before.before.before.before.before.before.before.before.seen.given.1) c.before.before.before.before.before.before.before.if1.false _ c.before.before.before.moved.given.1 c.if3.true
 
 enum_told : tie.Need-enum-told
 enum_told c = search rules
@@ -35,16 +35,16 @@ enum-told-2 : tie.Need-enum-told-2
 enum-told-2 c = search rules
 
 returns-4 : tie.Need-returns-4
-returns-4 c = let n = c.before.before.before in let w = n.survey-all in (tt, unreadable (whole-refused n.before.before.args.s.now _ w.result w.ensures _ c.before.c.given.1))
+returns-4 c = let n = c.before.before.before in let w = n.survey-all in (tt, unreadable (whole_refused n.before.before.args.s.now _ w.result w.ensures _ c.before.c.given.1))
 
 returns-5 : tie.Need-returns-5
-returns-5 c = let n = c.before.before.before.before.before.before.before.before.before.before.before in let a = n.before.before.args in let w = n.survey-all in undo-two a.s.now (slice-bytes a.s.now (λ i. omega (arith, n.before.shared-slice-known.given i))) a.key _ (whole-seen a.s.now _ w.result w.ensures _ c.before.before.before.before.before.before.before.before.before.seen.given.1) c.before.before.before.before.before.before.before.if1.false _ c.before.before.before.moved.given.1 c.if3.false
+returns-5 c = let n = c.before.before.before.before.before.before.before.before.before.before.before in let a = n.before.before.args in let w = n.survey-all in undo_two a.s.now (slice_bytes a.s.now (λ i. omega (arith, n.before.shared-slice-known.given i))) a.key _ (whole_seen a.s.now _ w.result w.ensures _ c.before.before.before.before.before.before.before.before.before.seen.given.1) c.before.before.before.before.before.before.before.if1.false _ c.before.before.before.moved.given.1 c.if3.false
 
 returns-6 : tie.Need-returns-6
-returns-6 c = let n = c.before.before.before.before.before.before.before.before in let a = n.before.before.args in let w = n.survey-all in undo-still a.s.now (slice-bytes a.s.now (λ i. omega (arith, n.before.shared-slice-known.given i))) a.key _ (whole-seen a.s.now _ w.result w.ensures _ c.before.before.before.before.before.before.seen.given.1) c.before.before.before.before.if1.false c.before.before.if2.false c.enum_told.given.1
+returns-6 c = let n = c.before.before.before.before.before.before.before.before in let a = n.before.before.args in let w = n.survey-all in undo_still a.s.now (slice_bytes a.s.now (λ i. omega (arith, n.before.shared-slice-known.given i))) a.key _ (whole_seen a.s.now _ w.result w.ensures _ c.before.before.before.before.before.before.seen.given.1) c.before.before.before.before.if1.false c.before.before.if2.false c.enum_told.given.1
 
 returns-7 : tie.Need-returns-7
-returns-7 c = let n = c.before.before.before.before.before.before.before.before in let a = n.before.before.args in let w = n.survey-all in undo-stuck a.s.now (slice-bytes a.s.now (λ i. omega (arith, n.before.shared-slice-known.given i))) a.key _ (whole-seen a.s.now _ w.result w.ensures _ c.before.before.before.before.before.before.seen.given.1) c.before.before.before.before.if1.false c.enum-told2.given.1
+returns-7 c = let n = c.before.before.before.before.before.before.before.before in let a = n.before.before.args in let w = n.survey-all in undo_stuck a.s.now (slice_bytes a.s.now (λ i. omega (arith, n.before.shared-slice-known.given i))) a.key _ (whole_seen a.s.now _ w.result w.ensures _ c.before.before.before.before.before.before.seen.given.1) c.before.before.before.before.if1.false c.enum-told2.given.1
 
 pub plan-undo-spec : {M : Type 1} → statement M
 plan-undo-spec =

@@ -3,8 +3,8 @@ use mathlib.Core.Path.{◌≡◌}
 use Prim.Native.Nat.{◌≤◌, ◌-◌}
 use native.Mathlib.Omega.{arith}
 use Rattle.rank.specs.Rank.{rank}
-use Rattle.rank.proofs.Ranks.{rank-bound}
-use Rattle.rank.proofs.Steps.{climbs, at-end}
+use Rattle.rank.proofs.Ranks.{rank_bound}
+use Rattle.rank.proofs.Steps.{climbs, at_end}
 use Rattle.rank.proofs.climb.Statement.{statement}
 use Rattle.rank.proofs.climb.Tie as tie
 
@@ -18,7 +18,7 @@ loop-holds : tie.Need-loop-init invariant-loop decreases-loop
 loop-holds c = (omega arith, c.requires.1.2)
 
 counted-requires : tie.Need-counted-requires invariant-loop decreases-loop
-counted-requires c κs = (c.before.before.requires.0, (omega arith, omega (arith, rank-bound c.before.before.args.marks.now c.before.loop.k)))
+counted-requires c κs = (c.before.before.requires.0, (omega arith, omega (arith, rank_bound c.before.before.args.marks.now c.before.loop.k)))
 
 add-k : tie.Need-overflow-add-k invariant-loop decreases-loop
 add-k c = omega arith
@@ -30,7 +30,7 @@ loop-again : tie.Need-loop-preserved invariant-loop decreases-loop
 loop-again c = (omega arith, climbs c.before.before.before.args.marks.now c.before.before.loop.k _ _ c.before.before.loop.invariant.1 c.counted.ensures)
 
 returns : tie.Need-returns invariant-loop decreases-loop
-returns c = at-end c.before.before.args.marks.now c.before.loop.k _ _ c.before.loop.invariant.0 (omega arith) c.before.loop.invariant.1
+returns c = at_end c.before.before.args.marks.now c.before.loop.k _ _ c.before.loop.invariant.0 (omega arith) c.before.loop.invariant.1
 
 pub climb-spec : {M : Type 1} → statement M
 climb-spec =

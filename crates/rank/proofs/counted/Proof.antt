@@ -1,5 +1,5 @@
 -- `counted` meets its contract: what the set answers of k decides.
-use Rattle.rank.proofs.Steps.{counts-one, counts-none}
+use Rattle.rank.proofs.Steps.{counts_one, counts_none}
 use borrow.Author.Rules.{rules}
 use Rattle.rank.proofs.counted.Statement.{statement}
 use Rattle.rank.proofs.counted.Tie as tie
@@ -14,10 +14,10 @@ add-result : tie.Need-overflow-add-result
 add-result c = search rules
 
 returns : tie.Need-returns
-returns c = counts-one c.before.has.result _ _ c.before.has.ensures c.if1.true
+returns c = counts_one c.before.has.result _ _ c.before.has.ensures c.if1.true
 
 returns-2 : tie.Need-returns-2
-returns-2 c = counts-none c.before.has.result _ _ c.before.has.ensures c.if1.false
+returns-2 c = counts_none c.before.has.result _ _ c.before.has.ensures c.if1.false
 
 pub counted_spec : {M : Type 1} → statement M
 counted_spec = tie.close (tie.spec cast-has has-requires add-result returns returns-2)

@@ -1,5 +1,5 @@
 -- `pass_byte` meets its contract: an empty byte has no member, any other is climbed.
-use Rattle.rank.proofs.Steps.{skip-byte}
+use Rattle.rank.proofs.Steps.{skip_byte}
 use borrow.Author.Rules.{rules}
 use Rattle.rank.proofs.pass_byte.Statement.{statement}
 use Rattle.rank.proofs.pass_byte.Tie as tie
@@ -8,7 +8,7 @@ element-copy-out-if1 : tie.Need-element-copy-out-if1
 element-copy-out-if1 c = search rules
 
 returns : tie.Need-returns
-returns c = skip-byte c.before.before.args.marks.now c.before.before.args.i _ c.if1.true c.before.before.requires.1.1
+returns c = skip_byte c.before.before.args.marks.now c.before.before.args.i _ c.if1.true c.before.before.requires.1.1
 
 mul-climb : tie.Need-overflow-mul-climb
 mul-climb c = search rules

@@ -1,6 +1,6 @@
 -- `rank` meets its contract: it climbs to the key from the first number of its byte.
 use native.Mathlib.Omega.{arith}
-use Rattle.rank.proofs.Steps.{first-of-byte, same_rank}
+use Rattle.rank.proofs.Steps.{first_of_byte, same_rank}
 use borrow.Author.Rules.{rules}
 use Rattle.rank.proofs.rank.Statement.{statement}
 use Rattle.rank.proofs.rank.Tie as tie
@@ -21,7 +21,7 @@ wide-requires-2 : tie.Need-wide-requires-2
 wide-requires-2 c κs = search rules
 
 climb-requires : tie.Need-climb-requires
-climb-requires c κs = (c.before.before.before.requires.0, (omega arith, omega (arith, c.before.before.wide.ensures, c.before.before.before.ranges.key.fits), first-of-byte c.before.before.before.args.marks.now c.before.before.before.args.base.now c.before.before.before.args.key c.before.before.wide.result c.wide2.result c.before.before.before.requires.1 c.before.before.before.requires.2 c.before.before.before.ranges.key.fits c.before.before.wide.ensures c.wide2.ensures))
+climb-requires c κs = (c.before.before.before.requires.0, (omega arith, omega (arith, c.before.before.wide.ensures, c.before.before.before.ranges.key.fits), first_of_byte c.before.before.before.args.marks.now c.before.before.before.args.base.now c.before.before.before.args.key c.before.before.wide.result c.wide2.result c.before.before.before.requires.1 c.before.before.before.requires.2 c.before.before.before.ranges.key.fits c.before.before.wide.ensures c.wide2.ensures))
 
 returns : tie.Need-returns
 returns c = same_rank c.before.before.before.before.args.marks.now c.before.before.before.before.args.key c.before.before.before.wide.result _ c.before.before.before.wide.ensures c.climb.ensures

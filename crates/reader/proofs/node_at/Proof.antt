@@ -1,6 +1,6 @@
 -- `node_at` meets its contract: a prefix and a restriction have a function each, every other return is one law of Heads.
 use mathlib.Core.Path.{refl}
-use Rattle.reader.proofs.Heads.{at-no-kind, at-nil, at-two}
+use Rattle.reader.proofs.Heads.{at_no_kind, at_nil_lem, at_two_lem}
 use borrow.Author.Rules.{rules}
 use Rattle.reader.proofs.node_at.Statement.{statement}
 use Rattle.reader.proofs.node_at.Tie as tie
@@ -24,7 +24,7 @@ returns-2 : tie.Need-returns-2
 returns-2 c = c.restriction-at.ensures
 
 returns-3 : tie.Need-returns-3
-returns-3 c = (refl, at-no-kind c.before.before.before.before.before.before.args.s.now c.before.before.before.before.before.before.args.at c.before.before.before.wide-byte.result c.before.before.before.wide-byte.ensures c.if3.true)
+returns-3 c = (refl, at_no_kind c.before.before.before.before.before.before.args.s.now c.before.before.before.before.before.before.args.at c.before.before.before.wide-byte.result c.before.before.before.wide-byte.ensures c.if3.true)
 
 child-count-requires : tie.Need-child-count-requires
 child-count-requires c κs = search rules
@@ -39,7 +39,7 @@ add-t10 : tie.Need-overflow-add-t10
 add-t10 c = search rules
 
 returns-4 : tie.Need-returns-4
-returns-4 c = rw (c.before.child-count.ensures, c.body-length.ensures) (at-nil c.before.before.before.before.before.before.before.before.before.args.s.now c.before.before.before.before.before.before.before.before.before.args.at (c.before.before.before.before.before.before.before.before.before.requires, rw c.before.before.if4.true at c.before.before.before.before.before.before.wide-byte.ensures))
+returns-4 c = rw (c.before.child-count.ensures, c.body-length.ensures) (at_nil_lem c.before.before.before.before.before.before.before.before.before.args.s.now c.before.before.before.before.before.before.before.before.before.args.at (c.before.before.before.before.before.before.before.before.before.requires, rw c.before.before.if4.true at c.before.before.before.before.before.before.wide-byte.ensures))
 
 child-count-requires-2 : tie.Need-child-count-requires-2
 child-count-requires-2 c κs = search rules
@@ -54,7 +54,7 @@ add-t14 : tie.Need-overflow-add-t14
 add-t14 c = search rules
 
 returns-5 : tie.Need-returns-5
-returns-5 c = rw (c.before.child-count2.ensures, c.body-length2.ensures) (at-two c.before.before.before.before.before.before.before.before.before.args.s.now c.before.before.before.before.before.before.before.before.before.args.at c.before.before.before.before.before.before.wide-byte.result c.before.before.before.if3.false (c.before.before.before.before.before.before.before.before.before.requires, c.before.before.before.before.before.before.wide-byte.ensures) c.before.before.if4.false c.before.before.before.before.before.if1.false c.before.before.before.before.if2.false)
+returns-5 c = rw (c.before.child-count2.ensures, c.body-length2.ensures) (at_two_lem c.before.before.before.before.before.before.before.before.before.args.s.now c.before.before.before.before.before.before.before.before.before.args.at c.before.before.before.before.before.before.wide-byte.result c.before.before.before.if3.false (c.before.before.before.before.before.before.before.before.before.requires, c.before.before.before.before.before.before.wide-byte.ensures) c.before.before.if4.false c.before.before.before.before.before.if1.false c.before.before.before.before.if2.false)
 
 pub node_at_spec : {M : Type 1} → statement M
 node_at_spec =

@@ -1,6 +1,6 @@
 -- `restriction_at` meets its contract: each return is one law of Heads.
 use mathlib.Core.Path.{refl}
-use Rattle.reader.proofs.Heads.{restriction-cut, restriction-zero, restriction-large, restriction-found}
+use Rattle.reader.proofs.Heads.{restriction_cut, restriction_zero, restriction_large, restriction_found}
 use borrow.Author.Rules.{rules}
 use Rattle.reader.proofs.restriction_at.Statement.{statement}
 use Rattle.reader.proofs.restriction_at.Tie as tie
@@ -15,19 +15,19 @@ sub-if1 : tie.Need-overflow-sub-if1
 sub-if1 c = search rules
 
 returns : tie.Need-returns
-returns c = (refl, restriction-cut c.before.before.before.args.s.now c.before.before.before.args.at c.before.body-length.result c.before.before.before.requires c.before.body-length.ensures c.if1.true)
+returns c = (refl, restriction_cut c.before.before.before.args.s.now c.before.before.before.args.at c.before.body-length.result c.before.before.before.requires c.before.body-length.ensures c.if1.true)
 
 shared-slice-read-if2 : tie.Need-shared-slice-read-if2
 shared-slice-read-if2 c = search rules
 
 returns-2 : tie.Need-returns-2
-returns-2 c = (refl, restriction-zero c.before.before.before.before.before.args.s.now c.before.before.before.before.before.args.at c.before.before.before.body-length.result c.before.before.before.before.before.requires c.before.before.before.body-length.ensures c.before.before.if1.false c.if2.true)
+returns-2 c = (refl, restriction_zero c.before.before.before.before.before.args.s.now c.before.before.before.before.before.args.at c.before.before.before.body-length.result c.before.before.before.before.before.requires c.before.before.before.body-length.ensures c.before.before.if1.false c.if2.true)
 
 shared-slice-read-if3 : tie.Need-shared-slice-read-if3
 shared-slice-read-if3 c = search rules
 
 returns-3 : tie.Need-returns-3
-returns-3 c = (refl, restriction-large c.before.before.before.before.before.before.before.args.s.now c.before.before.before.before.before.before.before.args.at c.before.before.before.before.before.body-length.result c.before.before.before.before.before.before.before.requires c.before.before.before.before.before.body-length.ensures c.before.before.before.before.if1.false c.before.before.if2.false c.if3.true)
+returns-3 c = (refl, restriction_large c.before.before.before.before.before.before.before.args.s.now c.before.before.before.before.before.before.before.args.at c.before.before.before.before.before.body-length.result c.before.before.before.before.before.before.before.requires c.before.before.before.before.before.body-length.ensures c.before.before.before.before.if1.false c.before.before.if2.false c.if3.true)
 
 child-count-requires : tie.Need-child-count-requires
 child-count-requires c κs = search rules
@@ -36,7 +36,7 @@ add-t6 : tie.Need-overflow-add-t6
 add-t6 c = search rules
 
 returns-4 : tie.Need-returns-4
-returns-4 c = rw c.child-count.ensures (restriction-found c.before.before.before.before.before.before.before.before.args.s.now c.before.before.before.before.before.before.before.before.args.at c.before.before.before.before.before.before.body-length.result c.before.before.before.before.before.before.before.before.requires c.before.before.before.before.before.before.body-length.ensures c.before.before.before.before.before.if1.false c.before.before.before.if2.false c.before.if3.false)
+returns-4 c = rw c.child-count.ensures (restriction_found c.before.before.before.before.before.before.before.before.args.s.now c.before.before.before.before.before.before.before.before.args.at c.before.before.before.before.before.before.body-length.result c.before.before.before.before.before.before.before.before.requires c.before.before.before.before.before.before.body-length.ensures c.before.before.before.before.before.if1.false c.before.before.before.if2.false c.before.if3.false)
 
 pub restriction-at-spec : {M : Type 1} → statement M
 restriction-at-spec =

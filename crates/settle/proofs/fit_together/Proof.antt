@@ -1,5 +1,5 @@
 -- `fit_together` meets its contract: where the scopes are one, the actions decide.
-use Rattle.settle.proofs.Groups.{fit-labels}
+use Rattle.settle.proofs.Groups.{fit_labels}
 use borrow.Author.Rules.{rules}
 use Rattle.settle.proofs.fit_together.Statement.{statement}
 use Rattle.settle.proofs.fit_together.Tie as tie
@@ -26,7 +26,7 @@ complementary-requires : tie.Need-complementary-requires
 complementary-requires c κs = search rules
 
 returns : tie.Need-returns
-returns c = fit-labels c.before.before.before.before.before.before.args.action.now c.before.before.before.before.before.before.args.scope.now c.before.before.before.before.before.before.args.j c.before.before.before.before.before.before.args.i c.complementary.result c.before.before.before.if1.true c.complementary.ensures
+returns c = fit_labels c.before.before.before.before.before.before.args.action.now c.before.before.before.before.before.before.args.scope.now c.before.before.before.before.before.before.args.j c.before.before.before.before.before.before.args.i c.complementary.result c.before.before.before.if1.true c.complementary.ensures
 
 returns-2 : tie.Need-returns-2
 returns-2 c = λ f. c.if1.false f.1

@@ -6,14 +6,14 @@ use mathlib.Core.Path.{sym, ◌∙◌}
 use mathlib.Core.Bool.{false≢true}
 use native.Mathlib.Omega.{arith}
 use lib.ListN.{length-set}
-use Rattle.shared.proofs.Labels.{tells-iff}
-use Rattle.showing.proofs.Listing.{listed-none, listed-one}
+use Rattle.shared.proofs.Labels.{tells_iff}
+use Rattle.showing.proofs.Listing.{listed_none, listed_one}
 
 returns : tie.Need-returns
-returns c = (listed-one (omega (arith, c.before.before.requires.0, c.before.before.requires.1, c.before.before.requires.2)) (λ i. (λ w. w.0, λ e. (e, (tells-iff c.before.has.result c.before.has.ensures).0 c.if1.true))), omega (arith, c.before.before.requires.2), simp length-set c.before.before.requires.1)
+returns c = (listed_one (omega (arith, c.before.before.requires.0, c.before.before.requires.1, c.before.before.requires.2)) (λ i. (λ w. w.0, λ e. (e, (tells_iff c.before.has.result c.before.has.ensures).0 c.if1.true))), omega (arith, c.before.before.requires.2), simp length-set c.before.before.requires.1)
 
 returns-2 : tie.Need-returns-2
-returns-2 c = (listed-none (λ i w. false≢true (sym c.if1.false ∙ (tells-iff c.before.has.result c.before.has.ensures).1 w.1)), omega (arith, c.before.before.requires.2), c.before.before.requires.1)
+returns-2 c = (listed_none (λ i w. false≢true (sym c.if1.false ∙ (tells_iff c.before.has.result c.before.has.ensures).1 w.1)), omega (arith, c.before.before.requires.2), c.before.before.requires.1)
 
 pub list-own-spec : {M : Type 1} → statement M
 list-own-spec =

@@ -1,25 +1,25 @@
 -- `number` meets its contract: the keys are gathered and ranked, and both columns renamed by these ranks.
 use native.Mathlib.Omega.{arith}
-use Rattle.keys.proofs.Marks.{holds-none}
-use Rattle.slots.proofs.Slots.{ranks-count, ranks-few, keys_in, ups-in, numbered}
+use Rattle.keys.proofs.Marks.{holds_none}
+use Rattle.slots.proofs.Slots.{ranks_count, ranks_few, keys_in, ups_in, numbered}
 use borrow.Author.Rules.{rules}
 use Rattle.slots.proofs.number.Statement.{statement}
 use Rattle.slots.proofs.number.Tie as tie
 
 mark-all-requires : tie.Need-mark-all-requires
-mark-all-requires c κs = holds-none
+mark-all-requires c κs = holds_none
 
 fill-requires : tie.Need-fill-requires
-fill-requires c κs = (c.before.before.mark-all.ensures.0.whole, search rules, ranks-count _ c.before.before.before.before.before.before.before.args.keys.now c.before.before.mark-all.ensures.0 (λ i. omega (arith, c.before.before.before.before.before.before.slice-known.given i)) c.before.before.before.before.before.before.before.requires.keys _ c.before.before.mark-all.ensures.1)
+fill-requires c κs = (c.before.before.mark-all.ensures.0.whole, search rules, ranks_count _ c.before.before.before.before.before.before.before.args.keys.now c.before.before.mark-all.ensures.0 (λ i. omega (arith, c.before.before.before.before.before.before.slice-known.given i)) c.before.before.before.before.before.before.before.requires.keys _ c.before.before.mark-all.ensures.1)
 
 rename-requires : tie.Need-rename-requires
-rename-requires c κs = ((c.before.before.before.before.before.before.mark-all.ensures.0.whole, c.before.before.before.fill.ensures, omega (arith, ranks-few _ c.before.before.before.before.before.before.before.before.before.before.before.args.keys.now c.before.before.before.before.before.before.mark-all.ensures.0 (λ i. omega (arith, c.before.before.before.before.before.before.before.before.before.before.slice-known.given i)) c.before.before.before.before.before.before.before.before.before.before.before.requires.keys, c.before.before.before.before.before.before.before.before.before.before.before.requires.few)), keys_in _ c.before.before.before.before.before.before.before.before.before.before.before.args.keys.now c.before.before.before.before.before.before.mark-all.ensures.0 (λ i. omega (arith, c.before.before.before.before.before.before.before.before.before.before.slice-known.given i)) c.before.before.before.before.before.before.before.before.before.before.before.requires.keys)
+rename-requires c κs = ((c.before.before.before.before.before.before.mark-all.ensures.0.whole, c.before.before.before.fill.ensures, omega (arith, ranks_few _ c.before.before.before.before.before.before.before.before.before.before.before.args.keys.now c.before.before.before.before.before.before.mark-all.ensures.0 (λ i. omega (arith, c.before.before.before.before.before.before.before.before.before.before.slice-known.given i)) c.before.before.before.before.before.before.before.before.before.before.before.requires.keys, c.before.before.before.before.before.before.before.before.before.before.before.requires.few)), keys_in _ c.before.before.before.before.before.before.before.before.before.before.before.args.keys.now c.before.before.before.before.before.before.mark-all.ensures.0 (λ i. omega (arith, c.before.before.before.before.before.before.before.before.before.before.slice-known.given i)) c.before.before.before.before.before.before.before.before.before.before.before.requires.keys)
 
 rename-requires-2 : tie.Need-rename-requires-2
-rename-requires-2 c κs = ((c.before.before.before.before.before.before.before.before.before.before.before.before.mark-all.ensures.0.whole, c.before.before.before.before.before.before.before.before.before.fill.ensures, omega (arith, ranks-few _ c.before.before.before.before.before.before.before.before.before.before.before.before.before.before.before.before.before.args.keys.now c.before.before.before.before.before.before.before.before.before.before.before.before.mark-all.ensures.0 (λ i. omega (arith, c.before.before.before.before.before.before.before.before.before.before.before.before.before.before.before.before.slice-known.given i)) c.before.before.before.before.before.before.before.before.before.before.before.before.before.before.before.before.before.requires.keys, c.before.before.before.before.before.before.before.before.before.before.before.before.before.before.before.before.before.requires.few)), ups-in _ c.before.before.before.before.before.before.before.before.before.before.before.before.before.before.before.before.before.args.keys.now c.before.before.before.before.before.before.before.before.before.before.before.before.mark-all.ensures.0 (λ i. omega (arith, c.before.before.before.before.before.before.before.before.before.before.before.before.before.before.before.before.slice-known.given i)) c.before.before.before.before.before.before.before.before.before.before.before.before.before.before.before.before.before.requires.keys c.before.before.before.before.before.before.before.before.before.before.before.before.before.before.before.before.before.args.ups.now c.before.before.before.before.before.before.before.before.before.before.before.before.before.before.before.before.before.requires)
+rename-requires-2 c κs = ((c.before.before.before.before.before.before.before.before.before.before.before.before.mark-all.ensures.0.whole, c.before.before.before.before.before.before.before.before.before.fill.ensures, omega (arith, ranks_few _ c.before.before.before.before.before.before.before.before.before.before.before.before.before.before.before.before.before.args.keys.now c.before.before.before.before.before.before.before.before.before.before.before.before.mark-all.ensures.0 (λ i. omega (arith, c.before.before.before.before.before.before.before.before.before.before.before.before.before.before.before.before.slice-known.given i)) c.before.before.before.before.before.before.before.before.before.before.before.before.before.before.before.before.before.requires.keys, c.before.before.before.before.before.before.before.before.before.before.before.before.before.before.before.before.before.requires.few)), ups_in _ c.before.before.before.before.before.before.before.before.before.before.before.before.before.before.before.before.before.args.keys.now c.before.before.before.before.before.before.before.before.before.before.before.before.mark-all.ensures.0 (λ i. omega (arith, c.before.before.before.before.before.before.before.before.before.before.before.before.before.before.before.before.slice-known.given i)) c.before.before.before.before.before.before.before.before.before.before.before.before.before.before.before.before.before.requires.keys c.before.before.before.before.before.before.before.before.before.before.before.before.before.before.before.before.before.args.ups.now c.before.before.before.before.before.before.before.before.before.before.before.before.before.before.before.before.before.requires)
 
 add-result : tie.Need-overflow-add-result
-add-result c = omega (arith, ranks-few _ c.before.before.before.before.before.before.before.before.before.before.before.before.before.before.before.before.before.before.before.before.args.keys.now c.before.before.before.before.before.before.before.before.before.before.before.before.before.before.before.mark-all.ensures.0 (λ i. omega (arith, c.before.before.before.before.before.before.before.before.before.before.before.before.before.before.before.before.before.before.before.slice-known.given i)) c.before.before.before.before.before.before.before.before.before.before.before.before.before.before.before.before.before.before.before.before.requires.keys, c.before.before.before.before.before.before.before.before.before.before.before.before.before.before.before.before.before.before.before.before.requires.few, ranks-count _ c.before.before.before.before.before.before.before.before.before.before.before.before.before.before.before.before.before.before.before.before.args.keys.now c.before.before.before.before.before.before.before.before.before.before.before.before.before.before.before.mark-all.ensures.0 (λ i. omega (arith, c.before.before.before.before.before.before.before.before.before.before.before.before.before.before.before.before.before.before.before.slice-known.given i)) c.before.before.before.before.before.before.before.before.before.before.before.before.before.before.before.before.before.before.before.before.requires.keys _ c.before.before.before.before.before.before.before.before.before.before.before.before.before.before.before.mark-all.ensures.1)
+add-result c = omega (arith, ranks_few _ c.before.before.before.before.before.before.before.before.before.before.before.before.before.before.before.before.before.before.before.before.args.keys.now c.before.before.before.before.before.before.before.before.before.before.before.before.before.before.before.mark-all.ensures.0 (λ i. omega (arith, c.before.before.before.before.before.before.before.before.before.before.before.before.before.before.before.before.before.before.before.slice-known.given i)) c.before.before.before.before.before.before.before.before.before.before.before.before.before.before.before.before.before.before.before.before.requires.keys, c.before.before.before.before.before.before.before.before.before.before.before.before.before.before.before.before.before.before.before.before.requires.few, ranks_count _ c.before.before.before.before.before.before.before.before.before.before.before.before.before.before.before.before.before.before.before.before.args.keys.now c.before.before.before.before.before.before.before.before.before.before.before.before.before.before.before.mark-all.ensures.0 (λ i. omega (arith, c.before.before.before.before.before.before.before.before.before.before.before.before.before.before.before.before.before.before.before.slice-known.given i)) c.before.before.before.before.before.before.before.before.before.before.before.before.before.before.before.before.before.before.before.before.requires.keys _ c.before.before.before.before.before.before.before.before.before.before.before.before.before.before.before.mark-all.ensures.1)
 
 same_length : tie.Need-same-length
 same_length c = search rules
@@ -28,7 +28,7 @@ same-length-2 : tie.Need-same-length-2
 same-length-2 c = search rules
 
 returns : tie.Need-returns
-returns c = numbered _ c.before.before.before.before.before.before.before.before.before.before.before.before.before.before.before.before.before.before.before.before.args.keys.now c.before.before.before.before.before.before.before.before.before.before.before.before.before.before.before.mark-all.ensures.0 (λ i. omega (arith, c.before.before.before.before.before.before.before.before.before.before.before.before.before.before.before.before.before.before.before.slice-known.given i)) c.before.before.before.before.before.before.before.before.before.before.before.before.before.before.before.before.before.before.before.before.requires.keys c.before.before.before.before.before.before.before.before.before.before.before.before.before.before.before.before.before.before.before.before.args.ups.now _ _ c.before.before.before.before.before.before.before.before.before.before.before.before.before.before.before.mark-all.result c.before.before.before.before.before.before.before.before.before.before.before.before.before.before.before.before.before.before.before.before.requires (ranks-count _ c.before.before.before.before.before.before.before.before.before.before.before.before.before.before.before.before.before.before.before.before.args.keys.now c.before.before.before.before.before.before.before.before.before.before.before.before.before.before.before.mark-all.ensures.0 (λ i. omega (arith, c.before.before.before.before.before.before.before.before.before.before.before.before.before.before.before.before.before.before.before.slice-known.given i)) c.before.before.before.before.before.before.before.before.before.before.before.before.before.before.before.before.before.before.before.before.requires.keys _ c.before.before.before.before.before.before.before.before.before.before.before.before.before.before.before.mark-all.ensures.1) c.before.before.before.before.before.before.before.before.rename.ensures c.before.before.rename2.ensures
+returns c = numbered _ c.before.before.before.before.before.before.before.before.before.before.before.before.before.before.before.before.before.before.before.before.args.keys.now c.before.before.before.before.before.before.before.before.before.before.before.before.before.before.before.mark-all.ensures.0 (λ i. omega (arith, c.before.before.before.before.before.before.before.before.before.before.before.before.before.before.before.before.before.before.before.slice-known.given i)) c.before.before.before.before.before.before.before.before.before.before.before.before.before.before.before.before.before.before.before.before.requires.keys c.before.before.before.before.before.before.before.before.before.before.before.before.before.before.before.before.before.before.before.before.args.ups.now _ _ c.before.before.before.before.before.before.before.before.before.before.before.before.before.before.before.mark-all.result c.before.before.before.before.before.before.before.before.before.before.before.before.before.before.before.before.before.before.before.before.requires (ranks_count _ c.before.before.before.before.before.before.before.before.before.before.before.before.before.before.before.before.before.before.before.before.args.keys.now c.before.before.before.before.before.before.before.before.before.before.before.before.before.before.before.mark-all.ensures.0 (λ i. omega (arith, c.before.before.before.before.before.before.before.before.before.before.before.before.before.before.before.before.before.before.before.slice-known.given i)) c.before.before.before.before.before.before.before.before.before.before.before.before.before.before.before.before.before.before.before.before.requires.keys _ c.before.before.before.before.before.before.before.before.before.before.before.before.before.before.before.mark-all.ensures.1) c.before.before.before.before.before.before.before.before.rename.ensures c.before.before.rename2.ensures
 
 pub number-spec : {M : Type 1} → statement M
 number-spec =

@@ -5,7 +5,7 @@ use mathlib.Core.Path.{◌≡◌, refl}
 use Prim.Native.Nat.{◌-◌}
 use lib.ListN.{length, length-set}
 use Rattle.slots.specs.Slot.{slot}
-use Rattle.slots.proofs.Passes.{Renaming, rename-none, next-in, rename-one, rename-all}
+use Rattle.slots.proofs.Passes.{Renaming, rename_none, next_in, rename_one, rename_all}
 use Rattle.slots.proofs.rename.Statement.{statement}
 use Rattle.slots.proofs.rename.Tie as tie
 
@@ -16,7 +16,7 @@ abbrev decreases-loop : tie.decreases-loop
 decreases-loop column₀ marks base i₀ column i = length column₀ - i
 
 loop-holds : tie.Need-loop-init invariant-loop decreases-loop
-loop-holds c = (refl, rename-none (slot c.before.args.marks.now) c.before.args.column.now)
+loop-holds c = (refl, rename_none (slot c.before.args.marks.now) c.before.args.column.now)
 
 mul-slot : tie.Need-overflow-mul-slot invariant-loop decreases-loop
 mul-slot c = search rules
@@ -25,7 +25,7 @@ slice-read-slot : tie.Need-slice-read-slot invariant-loop decreases-loop
 slice-read-slot c = search rules
 
 slot-requires : tie.Need-slot-requires invariant-loop decreases-loop
-slot-requires c κs = (c.before.before.before.before.requires.0, next-in (slot c.before.before.before.before.args.marks.now) c.before.before.before.before.args.column.now c.before.before.loop.column c.before.before.loop.i c.before.before.before.before.args.marks.now (omega (arith, c.before.before.loop.invariant.0)) c.before.before.loop.invariant.1 c.before.before.before.before.requires.1)
+slot-requires c κs = (c.before.before.before.before.requires.0, next_in (slot c.before.before.before.before.args.marks.now) c.before.before.before.before.args.column.now c.before.before.loop.column c.before.before.loop.i c.before.before.before.before.args.marks.now (omega (arith, c.before.before.loop.invariant.0)) c.before.before.loop.invariant.1 c.before.before.before.before.requires.1)
 
 mul-column : tie.Need-overflow-mul-column invariant-loop decreases-loop
 mul-column c = search rules
@@ -40,13 +40,13 @@ loop-less : tie.Need-loop-smaller invariant-loop decreases-loop
 loop-less c = search rules
 
 loop-again : tie.Need-loop-preserved invariant-loop decreases-loop
-loop-again c = (simp length-set c.before.before.before.loop.invariant.0, rename-one (slot c.before.before.before.before.before.args.marks.now) c.before.before.before.before.before.args.column.now c.before.before.before.loop.column c.before.before.before.loop.i c.slot.result c.before.before.before.loop.invariant.0 c.before.before.loop-test.true c.slot.ensures c.before.before.before.loop.invariant.1)
+loop-again c = (simp length-set c.before.before.before.loop.invariant.0, rename_one (slot c.before.before.before.before.before.args.marks.now) c.before.before.before.before.before.args.column.now c.before.before.before.loop.column c.before.before.before.loop.i c.slot.result c.before.before.before.loop.invariant.0 c.before.before.loop-test.true c.slot.ensures c.before.before.before.loop.invariant.1)
 
 same_length : tie.Need-same-length invariant-loop decreases-loop
 same_length c = c.before.loop.invariant.0
 
 returns : tie.Need-returns invariant-loop decreases-loop
-returns c = rename-all (slot c.before.before.before.args.marks.now) c.before.before.before.args.column.now c.before.loop.column c.before.loop.i c.before.loop.invariant.0 (omega arith) c.before.loop.invariant.1
+returns c = rename_all (slot c.before.before.before.args.marks.now) c.before.before.before.args.column.now c.before.loop.column c.before.loop.i c.before.loop.invariant.0 (omega arith) c.before.loop.invariant.1
 
 pub rename-spec : {M : Type 1} → statement M
 rename-spec =

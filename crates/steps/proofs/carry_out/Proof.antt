@@ -1,7 +1,7 @@
 -- `carry_out` meets its contract: each place of the plan stands in the record, and `write` puts the key there.
 use mathlib.Core.Path.{refl, ◌∙◌}
 use lib.ListN.{length-set}
-use Rattle.plans.proofs.Plans.{inside_one, inside-two}
+use Rattle.plans.proofs.Plans.{inside_one, inside_two}
 use borrow.Author.Rules.{rules}
 use Rattle.steps.proofs.carry_out.Statement.{statement}
 use Rattle.steps.proofs.carry_out.Tie as tie
@@ -19,10 +19,10 @@ enum-known-plan-3 : tie.Need-enum-known-plan-3
 enum-known-plan-3 c = search rules
 
 write-requires-2 : tie.Need-write-requires-2
-write-requires-2 c κs = (inside-two _ _ _ _ _ c.before.before.plan3.given.1 c.before.before.before.before.before.requires).0
+write-requires-2 c κs = (inside_two _ _ _ _ _ c.before.before.plan3.given.1 c.before.before.before.before.before.requires).0
 
 write-requires-3 : tie.Need-write-requires-3
-write-requires-3 c κs = rw c.before.before.before.write2.ensures (simp length-set (inside-two _ _ _ _ _ c.before.before.before.before.before.before.plan3.given.1 c.before.before.before.before.before.before.before.before.before.requires).1)
+write-requires-3 c κs = rw c.before.before.before.write2.ensures (simp length-set (inside_two _ _ _ _ _ c.before.before.before.before.before.before.plan3.given.1 c.before.before.before.before.before.before.before.before.before.requires).1)
 
 returns : tie.Need-returns
 returns c = search rules

@@ -1,5 +1,5 @@
 -- `take_sound` meets its contract: filing decides whether the key stands there.
-use Rattle.takeback.proofs.Answers.{bytes-refused, key-absent, key-stands}
+use Rattle.takeback.proofs.Answers.{bytes_refused, key_absent, key_stands}
 use Rattle.filing.proofs.Drawers.{empty}
 use borrow.Author.Rules.{rules}
 use borrow.Author.Rules.{rules}
@@ -43,19 +43,19 @@ slice-aggregate-take-linked-4 : tie.Need-slice-aggregate-take-linked-4
 slice-aggregate-take-linked-4 c = search rules
 
 take-linked-requires : tie.Need-take-linked-requires
-take-linked-requires c κs = key-stands c.before.before.before.before.before.before.before.before.before.before.before.before.before.before.before.before.before.before.before.before.before.args.bytes.now c.before.before.before.before.before.before.before.before.before.before.before.before.before.before.before.before.before.before.before.before.before.args.key c.before.before.before.before.before.before.before.before.before.before.before.before.before.before.before.before.before.before.before.before.before.requires.0 c.before.before.before.before.before.before.before.before.before.before.before.before.before.before.before.before.before.before.before.before.before.requires.1 _ c.before.before.before.before.before.before.before.before.before.before.before.before.before.file-all.result c.before.before.before.before.before.before.before.before.before.before.before.before.before.file-all.ensures _ c.before.before.before.before.before.before.before.links.given.1
+take-linked-requires c κs = key_stands c.before.before.before.before.before.before.before.before.before.before.before.before.before.before.before.before.before.before.before.before.before.args.bytes.now c.before.before.before.before.before.before.before.before.before.before.before.before.before.before.before.before.before.before.before.before.before.args.key c.before.before.before.before.before.before.before.before.before.before.before.before.before.before.before.before.before.before.before.before.before.requires.0 c.before.before.before.before.before.before.before.before.before.before.before.before.before.before.before.before.before.before.before.before.before.requires.1 _ c.before.before.before.before.before.before.before.before.before.before.before.before.before.file-all.result c.before.before.before.before.before.before.before.before.before.before.before.before.before.file-all.ensures _ c.before.before.before.before.before.before.before.links.given.1
 
 same_length : tie.Need-same-length
 same_length c = search rules
 
 returns : tie.Need-returns
-returns c = bytes-refused c.before.before.before.before.before.before.before.before.before.before.before.before.before.before.before.args.bytes.now c.before.before.before.before.before.before.before.before.before.before.before.before.before.before.before.args.key c.before.before.before.before.before.before.before.before.before.before.before.before.before.before.before.requires.0 c.before.before.before.before.before.before.before.before.before.before.before.before.before.before.before.requires.1 _ c.before.before.before.before.before.before.before.file-all.result c.before.before.before.before.before.before.before.file-all.ensures _ c.before.c.given.1 c.before.before.before.before.before.before.before.before.before.before.before.before.before.before.before.args.row.now
+returns c = bytes_refused c.before.before.before.before.before.before.before.before.before.before.before.before.before.before.before.args.bytes.now c.before.before.before.before.before.before.before.before.before.before.before.before.before.before.before.args.key c.before.before.before.before.before.before.before.before.before.before.before.before.before.before.before.requires.0 c.before.before.before.before.before.before.before.before.before.before.before.before.before.before.before.requires.1 _ c.before.before.before.before.before.before.before.file-all.result c.before.before.before.before.before.before.before.file-all.ensures _ c.before.c.given.1 c.before.before.before.before.before.before.before.before.before.before.before.before.before.before.before.args.row.now
 
 same-length-2 : tie.Need-same-length-2
 same-length-2 c = search rules
 
 returns-2 : tie.Need-returns-2
-returns-2 c = key-absent c.before.before.before.before.before.before.before.before.before.before.before.before.before.before.args.bytes.now c.before.before.before.before.before.before.before.before.before.before.before.before.before.before.args.key c.before.before.before.before.before.before.before.before.before.before.before.before.before.before.requires.0 c.before.before.before.before.before.before.before.before.before.before.before.before.before.before.requires.1 _ c.before.before.before.before.before.before.file-all.result c.before.before.before.before.before.before.file-all.ensures c.enum_told.given.1 c.before.before.before.before.before.before.before.before.before.before.before.before.before.before.args.row.now
+returns-2 c = key_absent c.before.before.before.before.before.before.before.before.before.before.before.before.before.before.args.bytes.now c.before.before.before.before.before.before.before.before.before.before.before.before.before.before.args.key c.before.before.before.before.before.before.before.before.before.before.before.before.before.before.requires.0 c.before.before.before.before.before.before.before.before.before.before.before.before.before.before.requires.1 _ c.before.before.before.before.before.before.file-all.result c.before.before.before.before.before.before.file-all.ensures c.enum_told.given.1 c.before.before.before.before.before.before.before.before.before.before.before.before.before.before.args.row.now
 
 same-length-3 : tie.Need-same-length-3
 same-length-3 c = search rules

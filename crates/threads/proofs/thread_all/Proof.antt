@@ -3,7 +3,7 @@ use native.Mathlib.Omega.{arith}
 use mathlib.Core.Path.{◌≡◌, refl, ◌∙◌}
 use Prim.Native.Nat.{◌≤◌, ◌+◌, ◌-◌}
 use lib.ListN.{length}
-use Rattle.threads.proofs.Threading.{all-threaded, row-threaded, threadable, threaded-none}
+use Rattle.threads.proofs.Threading.{all_threaded, row_threaded, threadable, threaded_none}
 use Rattle.threads.specs.Threads.{Threaded}
 use Rattle.threads.proofs.thread_all.Statement.{statement}
 use Rattle.threads.proofs.thread_all.Tie as tie
@@ -15,7 +15,7 @@ abbrev decreases-loop : tie.decreases-loop
 decreases-loop links marks base upper₀ lower older₀ heads₀ counters₀ i₀ upper older heads counters i = links + 1 - i
 
 loop-holds : tie.Need-loop-init invariant-loop decreases-loop
-loop-holds c = (refl, refl, omega arith, threaded-none c.before.before.before.before.before.args.marks.now _ c.before.before.before.before.before.args.links c.before.before.before.before.before.args.upper.now c.before.before.before.before.before.args.lower.now c.before.before.before.before.before.requires.0 c.before.before.before.before.before.args.base.now c.before.before.before.before.before.args.older.now c.before.before.before.before.before.args.heads.now c.before.before.before.before.before.args.counters.now c.before.before.before.before.before.requires.1)
+loop-holds c = (refl, refl, omega arith, threaded_none c.before.before.before.before.before.args.marks.now _ c.before.before.before.before.before.args.links c.before.before.before.before.before.args.upper.now c.before.before.before.before.before.args.lower.now c.before.before.before.before.before.requires.0 c.before.before.before.before.before.args.base.now c.before.before.before.before.before.args.older.now c.before.before.before.before.before.args.heads.now c.before.before.before.before.before.args.counters.now c.before.before.before.before.before.requires.1)
 
 thread-requires : tie.Need-thread-requires invariant-loop decreases-loop
 thread-requires c κs = threadable c.before.before.before.before.before.before.before.before.before.before.before.args.marks.now _ c.before.before.before.before.before.before.before.before.before.before.before.args.links c.before.before.before.before.before.before.before.before.before.before.before.args.upper.now c.before.before.before.before.before.before.before.before.before.before.before.args.lower.now c.before.before.before.before.before.before.before.before.before.before.before.requires.0 c.before.before.before.before.before.loop.i c.before.before.before.before.before.loop.upper c.before.before.before.before.before.loop.older c.before.before.before.before.before.loop.heads c.before.before.before.before.before.loop.counters c.before.before.before.before.before.loop.invariant.3 c.before.before.before.before.before.before.before.before.before.before.before.args.base.now c.before.before.before.before.before.before.before.before.before.before.before.requires.1.ranked c.before.before.before.before.loop-test.true (omega (arith, c.before.before.before.before.before.loop.invariant.0, c.before.before.before.before.before.before.before.before.before.before.before.requires.1.heads)) (omega (arith, c.before.before.before.before.before.loop.invariant.1, c.before.before.before.before.before.before.before.before.before.before.before.requires.1.counters))
@@ -27,7 +27,7 @@ loop-less : tie.Need-loop-smaller invariant-loop decreases-loop
 loop-less c = omega (arith, c.before.before.before.before.before.before.before.before.before.before.before.before.before.loop-test.true)
 
 loop-again : tie.Need-loop-preserved invariant-loop decreases-loop
-loop-again c = (c.before.before.before.heads.given ∙ c.before.before.before.before.before.before.before.before.before.before.before.before.before.before.loop.invariant.0, c.before.counters.given ∙ c.before.before.before.before.before.before.before.before.before.before.before.before.before.before.loop.invariant.1, omega (arith, c.before.before.before.before.before.before.before.before.before.before.before.before.before.loop-test.true), row-threaded c.before.before.before.before.before.before.before.before.before.before.before.before.before.before.before.before.before.before.before.before.args.marks.now _ c.before.before.before.before.before.before.before.before.before.before.before.before.before.before.before.before.before.before.before.before.args.links c.before.before.before.before.before.before.before.before.before.before.before.before.before.before.before.before.before.before.before.before.args.upper.now c.before.before.before.before.before.before.before.before.before.before.before.before.before.before.before.before.before.before.before.before.args.lower.now c.before.before.before.before.before.before.before.before.before.before.before.before.before.before.before.before.before.before.before.before.requires.0 c.before.before.before.before.before.before.before.before.before.before.before.before.before.before.loop.i c.before.before.before.before.before.before.before.before.before.before.before.before.before.before.loop.upper c.before.before.before.before.before.before.before.before.before.before.before.before.before.before.loop.older c.before.before.before.before.before.before.before.before.before.before.before.before.before.before.loop.heads c.before.before.before.before.before.before.before.before.before.before.before.before.before.before.loop.counters c.before.before.before.before.before.before.before.before.before.before.before.before.before.before.loop.invariant.3 c.before.before.before.before.before.before.before.before.before.before.before.before.before.loop-test.true (omega (arith, c.before.before.before.before.before.before.before.before.before.before.before.before.before.before.loop.invariant.0, c.before.before.before.before.before.before.before.before.before.before.before.before.before.before.before.before.before.before.before.before.requires.1.heads)) (omega (arith, c.before.before.before.before.before.before.before.before.before.before.before.before.before.before.loop.invariant.1, c.before.before.before.before.before.before.before.before.before.before.before.before.before.before.before.before.before.before.before.before.requires.1.counters)) _ _ _ _ c.before.before.before.before.before.before.before.before.thread.ensures)
+loop-again c = (c.before.before.before.heads.given ∙ c.before.before.before.before.before.before.before.before.before.before.before.before.before.before.loop.invariant.0, c.before.counters.given ∙ c.before.before.before.before.before.before.before.before.before.before.before.before.before.before.loop.invariant.1, omega (arith, c.before.before.before.before.before.before.before.before.before.before.before.before.before.loop-test.true), row_threaded c.before.before.before.before.before.before.before.before.before.before.before.before.before.before.before.before.before.before.before.before.args.marks.now _ c.before.before.before.before.before.before.before.before.before.before.before.before.before.before.before.before.before.before.before.before.args.links c.before.before.before.before.before.before.before.before.before.before.before.before.before.before.before.before.before.before.before.before.args.upper.now c.before.before.before.before.before.before.before.before.before.before.before.before.before.before.before.before.before.before.before.before.args.lower.now c.before.before.before.before.before.before.before.before.before.before.before.before.before.before.before.before.before.before.before.before.requires.0 c.before.before.before.before.before.before.before.before.before.before.before.before.before.before.loop.i c.before.before.before.before.before.before.before.before.before.before.before.before.before.before.loop.upper c.before.before.before.before.before.before.before.before.before.before.before.before.before.before.loop.older c.before.before.before.before.before.before.before.before.before.before.before.before.before.before.loop.heads c.before.before.before.before.before.before.before.before.before.before.before.before.before.before.loop.counters c.before.before.before.before.before.before.before.before.before.before.before.before.before.before.loop.invariant.3 c.before.before.before.before.before.before.before.before.before.before.before.before.before.loop-test.true (omega (arith, c.before.before.before.before.before.before.before.before.before.before.before.before.before.before.loop.invariant.0, c.before.before.before.before.before.before.before.before.before.before.before.before.before.before.before.before.before.before.before.before.requires.1.heads)) (omega (arith, c.before.before.before.before.before.before.before.before.before.before.before.before.before.before.loop.invariant.1, c.before.before.before.before.before.before.before.before.before.before.before.before.before.before.before.before.before.before.before.before.requires.1.counters)) _ _ _ _ c.before.before.before.before.before.before.before.before.thread.ensures)
 
 same_length : tie.Need-same-length invariant-loop decreases-loop
 same_length c = c.before.loop.invariant.3.long-ups
@@ -42,7 +42,7 @@ same-length-4 : tie.Need-same-length-4 invariant-loop decreases-loop
 same-length-4 c = c.before.loop.invariant.1
 
 returns : tie.Need-returns invariant-loop decreases-loop
-returns c = all-threaded c.before.before.before.before.before.before.before.args.marks.now _ c.before.before.before.before.before.before.before.args.links c.before.before.before.before.before.before.before.args.upper.now c.before.before.before.before.before.before.before.args.lower.now c.before.before.before.before.before.before.before.requires.0 c.before.loop.i c.before.loop.upper c.before.loop.older c.before.loop.heads c.before.loop.counters c.before.loop.invariant.3 (omega (arith, c.loop-test.false)) c.before.loop.invariant.2
+returns c = all_threaded c.before.before.before.before.before.before.before.args.marks.now _ c.before.before.before.before.before.before.before.args.links c.before.before.before.before.before.before.before.args.upper.now c.before.before.before.before.before.before.before.args.lower.now c.before.before.before.before.before.before.before.requires.0 c.before.loop.i c.before.loop.upper c.before.loop.older c.before.loop.heads c.before.loop.counters c.before.loop.invariant.3 (omega (arith, c.loop-test.false)) c.before.loop.invariant.2
 
 pub thread-all-spec : {M : Type 1} → statement M
 thread-all-spec =

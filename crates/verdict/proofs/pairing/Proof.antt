@@ -1,5 +1,5 @@
 -- `pairing` meets its contract: what `index` and `causes` answer is what it answers.
-use Rattle.verdict.proofs.Calls.{causes-asked, all_noted, thrice}
+use Rattle.verdict.proofs.Calls.{causes_asked, all_noted, thrice}
 use borrow.Author.Rules.{rules}
 use Rattle.verdict.proofs.pairing.Statement.{statement}
 use Rattle.verdict.proofs.pairing.Tie as tie
@@ -8,7 +8,7 @@ index-requires : tie.Need-index-requires
 index-requires c κs = search rules
 
 causes-requires : tie.Need-causes-requires
-causes-requires c κs = causes-asked c.before.before.before.before.before.before.before.before.before.before.before.before.before.before.before.before.args.keys.now c.before.before.before.before.before.before.before.before.before.before.before.before.before.before.before.before.args.actions.now c.before.before.before.before.before.before.before.before.before.before.before.before.before.before.before.before.args.ends.now c.before.before.before.before.before.before.before.before.before.before.before.before.before.before.before.before.args.scopes.now c.before.before.before.before.before.before.before.before.before.before.before.before.before.before.before.before.args.first.now c.before.before.before.before.before.before.before.before.before.before.before.before.before.before.before.before.args.second.now c.before.before.before.before.before.before.before.index.new.1.0 c.before.before.before.before.before.before.before.index.new.1.1.0 c.before.before.before.before.before.before.before.before.before.before.before.before.before.before.before.before.requires c.before.before.before.before.before.before.before.index.result c.before.before.before.before.before.before.before.index.ensures c.before.before.if1.true
+causes-requires c κs = causes_asked c.before.before.before.before.before.before.before.before.before.before.before.before.before.before.before.before.args.keys.now c.before.before.before.before.before.before.before.before.before.before.before.before.before.before.before.before.args.actions.now c.before.before.before.before.before.before.before.before.before.before.before.before.before.before.before.before.args.ends.now c.before.before.before.before.before.before.before.before.before.before.before.before.before.before.before.before.args.scopes.now c.before.before.before.before.before.before.before.before.before.before.before.before.before.before.before.before.args.first.now c.before.before.before.before.before.before.before.before.before.before.before.before.before.before.before.before.args.second.now c.before.before.before.before.before.before.before.index.new.1.0 c.before.before.before.before.before.before.before.index.new.1.1.0 c.before.before.before.before.before.before.before.before.before.before.before.before.before.before.before.before.requires c.before.before.before.before.before.before.before.index.result c.before.before.before.before.before.before.before.index.ensures c.before.before.if1.true
 
 same_length : tie.Need-same-length
 same_length c = search rules

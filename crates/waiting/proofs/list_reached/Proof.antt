@@ -2,9 +2,9 @@
 use borrow.Author.Rules.{rules}
 use Prim.Native.Nat.{ℕ}
 use lib.ListN.{length-replicate}
-use Rattle.keys.proofs.Marks.{holds-none}
+use Rattle.keys.proofs.Marks.{holds_none}
 use Rattle.filing.specs.Cabinet.{cabinet}
-use Rattle.waiting.proofs.Answers.{counted, reached-listed}
+use Rattle.waiting.proofs.Answers.{counted, reached_listed}
 use Rattle.waiting.proofs.list_reached.Statement.{statement}
 use Rattle.waiting.proofs.list_reached.Tie as tie
 
@@ -12,7 +12,7 @@ slice-aggregate-reach : tie.Need-slice-aggregate-reach
 slice-aggregate-reach c = search rules
 
 reach-requires : tie.Need-reach-requires
-reach-requires c κs = (c.before.before.before.before.before.before.before.requires.0, (holds-none, length-replicate {A = ℕ} 4097 0))
+reach-requires c κs = (c.before.before.before.before.before.before.before.requires.0, (holds_none, length-replicate {A = ℕ} 4097 0))
 
 fill-requires : tie.Need-fill-requires
 fill-requires c κs = (c.before.before.before.reach.ensures.holds.whole, counted (cabinet c.before.before.before.before.before.before.before.before.before.before.before.args.upper.now c.before.before.before.before.before.before.before.before.before.before.before.args.lower.now c.before.before.before.before.before.before.before.before.before.before.before.args.older.now c.before.before.before.before.before.before.before.before.before.before.before.args.latest.now) c.before.before.before.before.before.before.before.before.before.before.before.args.key _ _ c.before.before.before.reach.ensures)
@@ -21,7 +21,7 @@ same_length : tie.Need-same-length
 same_length c = search rules
 
 returns : tie.Need-returns
-returns c = reached-listed (cabinet c.before.before.before.before.before.before.before.before.before.before.before.before.before.before.args.upper.now c.before.before.before.before.before.before.before.before.before.before.before.before.before.before.args.lower.now c.before.before.before.before.before.before.before.before.before.before.before.before.before.before.args.older.now c.before.before.before.before.before.before.before.before.before.before.before.before.before.before.args.latest.now) c.before.before.before.before.before.before.before.before.before.before.before.before.before.before.args.key _ _ c.before.before.before.before.before.before.reach.ensures c.before.before.before.before.before.before.before.before.before.before.before.before.before.before.requires.1 _ _ _ _ c.before.before.fill.ensures
+returns c = reached_listed (cabinet c.before.before.before.before.before.before.before.before.before.before.before.before.before.before.args.upper.now c.before.before.before.before.before.before.before.before.before.before.before.before.before.before.args.lower.now c.before.before.before.before.before.before.before.before.before.before.before.before.before.before.args.older.now c.before.before.before.before.before.before.before.before.before.before.before.before.before.before.args.latest.now) c.before.before.before.before.before.before.before.before.before.before.before.before.before.before.args.key _ _ c.before.before.before.before.before.before.reach.ensures c.before.before.before.before.before.before.before.before.before.before.before.before.before.before.requires.1 _ _ _ _ c.before.before.fill.ensures
 
 pub list-reached-spec : {M : Type 1} → statement M
 list-reached-spec =

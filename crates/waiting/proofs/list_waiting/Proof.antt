@@ -1,7 +1,7 @@
 -- `list_waiting` meets its contract: filing decides the refusals, and otherwise the keys that links lead to are those that the key waits for.
 use borrow.Author.Rules.{rules}
 use Rattle.filing.proofs.Drawers.{empty}
-use Rattle.waiting.proofs.Answers.{bytes-refused, key-absent, key-stands, to-keys, answered}
+use Rattle.waiting.proofs.Answers.{bytes_refused, key_absent, key_stands, to_keys_lem, answered}
 use Rattle.waiting.proofs.list_waiting.Statement.{statement}
 use Rattle.waiting.proofs.list_waiting.Tie as tie
 
@@ -42,19 +42,19 @@ slice-aggregate-list-reached-4 : tie.Need-slice-aggregate-list-reached-4
 slice-aggregate-list-reached-4 c = search rules
 
 list-reached-requires : tie.Need-list-reached-requires
-list-reached-requires c κs = ((key-stands c.before.before.before.before.before.before.before.before.before.before.before.before.before.before.before.before.before.before.args.bytes.now c.before.before.before.before.before.before.before.before.before.before.before.before.before.before.before.before.before.before.args.key _ c.before.before.before.before.before.before.before.before.before.before.before.file-all.result c.before.before.before.before.before.before.before.before.before.before.before.file-all.ensures _ c.before.before.before.before.before.enum-told2.given.1).1.0, to-keys c.before.before.before.before.before.before.before.before.before.before.before.before.before.before.before.before.before.before.args.bytes.now _ (key-stands c.before.before.before.before.before.before.before.before.before.before.before.before.before.before.before.before.before.before.args.bytes.now c.before.before.before.before.before.before.before.before.before.before.before.before.before.before.before.before.before.before.args.key _ c.before.before.before.before.before.before.before.before.before.before.before.file-all.result c.before.before.before.before.before.before.before.before.before.before.before.file-all.ensures _ c.before.before.before.before.before.enum-told2.given.1).1)
+list-reached-requires c κs = ((key_stands c.before.before.before.before.before.before.before.before.before.before.before.before.before.before.before.before.before.before.args.bytes.now c.before.before.before.before.before.before.before.before.before.before.before.before.before.before.before.before.before.before.args.key _ c.before.before.before.before.before.before.before.before.before.before.before.file-all.result c.before.before.before.before.before.before.before.before.before.before.before.file-all.ensures _ c.before.before.before.before.before.enum-told2.given.1).1.0, to_keys_lem c.before.before.before.before.before.before.before.before.before.before.before.before.before.before.before.before.before.before.args.bytes.now _ (key_stands c.before.before.before.before.before.before.before.before.before.before.before.before.before.before.before.before.before.before.args.bytes.now c.before.before.before.before.before.before.before.before.before.before.before.before.before.before.before.before.before.before.args.key _ c.before.before.before.before.before.before.before.before.before.before.before.file-all.result c.before.before.before.before.before.before.before.before.before.before.before.file-all.ensures _ c.before.before.before.before.before.enum-told2.given.1).1)
 
 returns : tie.Need-returns
-returns c = bytes-refused c.before.before.before.before.before.before.before.before.before.before.before.before.before.before.args.bytes.now c.before.before.before.before.before.before.before.before.before.before.before.before.before.before.args.key _ c.before.before.before.before.before.before.before.file-all.result c.before.before.before.before.before.before.before.file-all.ensures _ c.before.c.given.1 c.before.before.before.before.before.before.before.before.before.before.before.before.before.before.args.row.now
+returns c = bytes_refused c.before.before.before.before.before.before.before.before.before.before.before.before.before.before.args.bytes.now c.before.before.before.before.before.before.before.before.before.before.before.before.before.before.args.key _ c.before.before.before.before.before.before.before.file-all.result c.before.before.before.before.before.before.before.file-all.ensures _ c.before.c.given.1 c.before.before.before.before.before.before.before.before.before.before.before.before.before.before.args.row.now
 
 returns-2 : tie.Need-returns-2
-returns-2 c = key-absent c.before.before.before.before.before.before.before.before.before.before.before.before.before.args.bytes.now c.before.before.before.before.before.before.before.before.before.before.before.before.before.args.key _ c.before.before.before.before.before.before.file-all.result c.before.before.before.before.before.before.file-all.ensures c.enum_told.given.1 c.before.before.before.before.before.before.before.before.before.before.before.before.before.requires c.before.before.before.before.before.before.before.before.before.before.before.before.before.args.row.now
+returns-2 c = key_absent c.before.before.before.before.before.before.before.before.before.before.before.before.before.args.bytes.now c.before.before.before.before.before.before.before.before.before.before.before.before.before.args.key _ c.before.before.before.before.before.before.file-all.result c.before.before.before.before.before.before.file-all.ensures c.enum_told.given.1 c.before.before.before.before.before.before.before.before.before.before.before.before.before.requires c.before.before.before.before.before.before.before.before.before.before.before.before.before.args.row.now
 
 same_length : tie.Need-same-length
 same_length c = search rules
 
 returns-3 : tie.Need-returns-3
-returns-3 c = answered c.before.before.before.before.before.before.before.before.before.before.before.before.before.before.before.before.before.before.before.before.before.args.bytes.now _ (key-stands c.before.before.before.before.before.before.before.before.before.before.before.before.before.before.before.before.before.before.before.before.before.args.bytes.now c.before.before.before.before.before.before.before.before.before.before.before.before.before.before.before.before.before.before.before.before.before.args.key _ c.before.before.before.before.before.before.before.before.before.before.before.before.before.before.file-all.result c.before.before.before.before.before.before.before.before.before.before.before.before.before.before.file-all.ensures _ c.before.before.before.before.before.before.before.before.enum-told2.given.1).1 c.before.before.before.before.before.before.before.before.before.before.before.before.before.before.before.before.before.before.before.before.before.args.key _ _ _ _ c.before.before.before.before.before.before.before.before.before.before.before.before.before.before.before.before.before.before.before.before.before.requires (key-stands c.before.before.before.before.before.before.before.before.before.before.before.before.before.before.before.before.before.before.before.before.before.args.bytes.now c.before.before.before.before.before.before.before.before.before.before.before.before.before.before.before.before.before.before.before.before.before.args.key _ c.before.before.before.before.before.before.before.before.before.before.before.before.before.before.file-all.result c.before.before.before.before.before.before.before.before.before.before.before.before.before.before.file-all.ensures _ c.before.before.before.before.before.before.before.before.enum-told2.given.1).0 c.before.before.list-reached.ensures
+returns-3 c = answered c.before.before.before.before.before.before.before.before.before.before.before.before.before.before.before.before.before.before.before.before.before.args.bytes.now _ (key_stands c.before.before.before.before.before.before.before.before.before.before.before.before.before.before.before.before.before.before.before.before.before.args.bytes.now c.before.before.before.before.before.before.before.before.before.before.before.before.before.before.before.before.before.before.before.before.before.args.key _ c.before.before.before.before.before.before.before.before.before.before.before.before.before.before.file-all.result c.before.before.before.before.before.before.before.before.before.before.before.before.before.before.file-all.ensures _ c.before.before.before.before.before.before.before.before.enum-told2.given.1).1 c.before.before.before.before.before.before.before.before.before.before.before.before.before.before.before.before.before.before.before.before.before.args.key _ _ _ _ c.before.before.before.before.before.before.before.before.before.before.before.before.before.before.before.before.before.before.before.before.before.requires (key_stands c.before.before.before.before.before.before.before.before.before.before.before.before.before.before.before.before.before.before.before.before.before.args.bytes.now c.before.before.before.before.before.before.before.before.before.before.before.before.before.before.before.before.before.before.before.before.before.args.key _ c.before.before.before.before.before.before.before.before.before.before.before.before.before.before.file-all.result c.before.before.before.before.before.before.before.before.before.before.before.before.before.before.file-all.ensures _ c.before.before.before.before.before.before.before.before.enum-told2.given.1).0 c.before.before.list-reached.ensures
 
 pub list-waiting-spec : {M : Type 1} → statement M
 list-waiting-spec =

@@ -3,7 +3,7 @@ use mathlib.Core.Path.{◌≡◌, subst}
 use Prim.Native.Nat.{ℕ, ◌-◌, ◌≤◌}
 use native.Mathlib.Omega.{arith}
 use Rattle.walker.specs.Shown.{GoesOn}
-use Rattle.walker.proofs.Steps.{goes_none, goes-one-more}
+use Rattle.walker.proofs.Steps.{goes_none, goes_one_more}
 use borrow.Author.Rules.{rules}
 use Rattle.walker.proofs.cursor_after.Statement.{statement}
 use Rattle.walker.proofs.cursor_after.Tie as tie
@@ -27,7 +27,7 @@ loop-less : tie.Need-loop-smaller invariant-loop decreases-loop
 loop-less c = search rules
 
 loop-again : tie.Need-loop-preserved invariant-loop decreases-loop
-loop-again c = let l = c.before.before.loop in (goes-one-more c.before.before.before.before.args.bytes.now c.before.before.before.before.args.c l.at c.next.result l.gone l.invariant.0 c.next.ensures, omega (arith, c.before.loop-test.true))
+loop-again c = let l = c.before.before.loop in (goes_one_more c.before.before.before.before.args.bytes.now c.before.before.before.before.args.c l.at c.next.result l.gone l.invariant.0 c.next.ensures, omega (arith, c.before.loop-test.true))
 
 returns : tie.Need-returns invariant-loop decreases-loop
 returns c = let l = c.before.loop in let e : l.gone ≡ c.before.before.before.args.steps = omega (arith, l.invariant.1, c.loop-test.false) in subst (λ (k : ℕ). GoesOn c.before.before.before.args.bytes.now c.before.before.before.args.c k l.at) e l.invariant.0

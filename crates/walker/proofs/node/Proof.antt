@@ -46,8 +46,8 @@ use Rattle.walker.specs.Shown.{NodeShown, GoesOn}
 use Rattle.walker.specs.declared.Walker.{Walker}
 use Rattle.walker.specs.contracts.Walker as T
 use Rattle.walker.proofs.Walker.TheLaws as T'
-use Rattle.walker.proofs.Held.{B, lent, Lent, record-typed}
-use Rattle.walker.proofs.Steps.{shown-after}
+use Rattle.walker.proofs.Held.{B, lent, Lent, record_typed}
+use Rattle.walker.proofs.Steps.{shown_after}
 use Rattle.walker.specs.contracts.open as opened
 use Rattle.walker.proofs.open.Symbol as open-def
 use Rattle.walker.proofs.open.Symbol.{name as #walker·open}
@@ -144,7 +144,7 @@ module _ {M : Type 1} {𝓤 : Ura M} (𝓛 : Logic 𝓤) (mem : Memory → SProp
 
   -- the three promises together
   promise : (w w' : Walker) (r : Shown) → Opened w → Gone w w' → Seen w' r → NodeShown s.now n.0 r
-  promise w w' r o g v = shown-after s.now w.cursor w'.cursor n.0 r (subst (λ (x : Bor (List ℕ)). GoesOn x.now w.cursor n.0 w'.cursor) o.0 g.1) (subst (λ (x : Bor (List ℕ)). Shows x.now w'.cursor r) (g.0 ∙ o.0) v) o.1
+  promise w w' r o g v = shown_after s.now w.cursor w'.cursor n.0 r (subst (λ (x : Bor (List ℕ)). GoesOn x.now w.cursor n.0 w'.cursor) o.0 g.1) (subst (λ (x : Bor (List ℕ)). Shows x.now w'.cursor r) (g.0 ∙ o.0) v) o.1
 
   exits : (r : Shown) (u : Val) → NodeShown s.now n.0 r → ent 𝓤 (⋆ 𝓛 (‵ ((S.the_row).own_val r (u ∷ [])) ∷ (‵ (flft κ q) ⊛ ‵ ftrue) ∷ ‵ Own ∷ [])) (Post u)
   exits r u e =
@@ -152,11 +152,11 @@ module _ {M : Type 1} {𝓤 : Ura M} (𝓛 : Logic 𝓤) (mem : Memory → SProp
       suffices ! _ (ends_at 𝓛 node.ended stayed (node.clauses 𝓛 mem run) (((κ, tt), (q, tt), tt, (s, (n, tt)), at), tt) u r (tt, (tt, tt)) (tt, (tt, tt))) $ says ! e $
       move ! (1 ∷ []) $ frame ! $ move ! (1 ∷ []) $ frame ! $ done !
 
-  module _ (C : Calls 𝓤 H) (Λ : Loops 𝓤 H) (fm : FmC 𝓤 H 𝓛.laws C) (known-open : Triple 𝓤 (C #walker·open) (Open 𝓛 mem run)) (known-onward : Triple 𝓤 (C #walker·onward) (Onward 𝓛 mem run)) (known-show : Triple 𝓤 (C #walker·show) (Show 𝓛 mem run)) where
+  module _ (C : Calls 𝓤 H) (Λ : Loops 𝓤 H) (fm : FmC 𝓤 H 𝓛.laws C) (known-open : Triple 𝓤 (C #walker·open) (Open 𝓛 mem run)) (known_onward : Triple 𝓤 (C #walker·onward) (Onward 𝓛 mem run)) (known-show : Triple 𝓤 (C #walker·show) (Show 𝓛 mem run)) where
     walk : Is (ShrSlice (named 0) κ u8) s (lent s ∷ []) → Is N.the_row n (LL.val N.the_type N'.the_laws n ∷ []) → ent 𝓤 (on_entry 𝓛 node.signature (κ, tt) (q, tt) (s, (n, tt)) at) (WpFn 𝓤 H C Λ code.function (lent s ∷ LL.val N.the_type N'.the_laws n ∷ []) Post)
     walk p pn =
         qed 𝓛 (raw (on_entry 𝓛 node.signature (κ, tt) (q, tt) (s, (n, tt)) at) ∷ []) ∵ enter ! C Λ code.function (lent s ∷ LL.val N.the_type N'.the_laws n ∷ []) _ $
-        alloc1 ! (λ l₀. alloc1 ! (λ l₁. alloc1 ! (λ l₂. alloc1 ! (λ l₃. alloc1 ! (λ l₄. alloc0 ! $ params1 ! $ pass1 ! (init ! 6 refl (tt, record-typed κ 𝓛 s p)) $ pass1 ! (init ! 4 refl ((LL.lawful N.the_type N'.the_laws 𝓛).typed n _ pn).0) $ pass0 ! $
+        alloc1 ! (λ l₀. alloc1 ! (λ l₁. alloc1 ! (λ l₂. alloc1 ! (λ l₃. alloc1 ! (λ l₄. alloc0 ! $ params1 ! $ pass1 ! (init ! 6 refl (tt, record_typed κ 𝓛 s p)) $ pass1 ! (init ! 4 refl ((LL.lawful N.the_type N'.the_laws 𝓛).typed n _ pn).0) $ pass0 ! $
         move ! (10 ∷ []) $ use1 𝓛 (raw ((Open 𝓛 mem run).pre to-open) ⊛ ‵ Own) goes-open $ split ! $
         calls_at ! fm (Open 𝓛 mem run) known-open to-open (and_then ! (load ! (from ! (stop !)) (look ! 8 refl)) (no_more !)) (λ u.
         use1 𝓛 (later (some (λ (w : Walker). ((‵ (flft κ q) ⊛ ‵ ftrue) ⊛ ‵ ((B (κ, tt)).own_val w (u ∷ []))) ⊛ raw (ensured 𝓛 opened.ended (opened.clauses 𝓛 mem run) (κ, tt) (s, tt) tt w)))) (id⊢ 𝓤 _) $ await ! tt $ pick ! (λ w.
@@ -165,7 +165,7 @@ module _ {M : Type 1} {𝓤 : Ura M} (𝓛 : Logic 𝓤) (mem : Memory → SProp
         peeks ! (B (κ, tt)) (Is (B (κ, tt))) (shows 𝓛 (B (κ, tt))) w (u ∷ []) (λ is.
         land ! (from ! (stop !)) (init ! 3 refl ((LL.lawful (T.the_type αᵉ) (T'.the_laws αᵉ) 𝓛).typed w _ is).0) $
         use2 𝓛 (raw ((Onward 𝓛 mem run).pre (to-onward w u))) (goes-onward w u) $
-        calls_at ! fm (Onward 𝓛 mem run) known-onward (to-onward w u) (and_then ! (load ! (from ! (stop !)) (look ! 2 refl)) (and_then ! (load ! (from ! (fld ! refl (stop !))) (look_in ! 6 (sub ! 0 refl (whole !)))) (no_more !))) (λ u'.
+        calls_at ! fm (Onward 𝓛 mem run) known_onward (to-onward w u) (and_then ! (load ! (from ! (stop !)) (look ! 2 refl)) (and_then ! (load ! (from ! (fld ! refl (stop !))) (look_in ! 6 (sub ! 0 refl (whole !)))) (no_more !))) (λ u'.
         use1 𝓛 (later (some (λ (w' : Walker). ((‵ (flft κ q) ⊛ ‵ ftrue) ⊛ ‵ ((B (κ, tt)).own_val w' (u' ∷ []))) ⊛ raw (ensured 𝓛 onward.ended (onward.clauses 𝓛 mem run) (κ, tt) (w, (n.0, tt)) tt w')))) (id⊢ 𝓤 _) $ await ! tt $ pick ! (λ w'.
         split ! $ move ! (1 ∷ []) $ use1 𝓛 (raw (fact 𝓤 (Gone w w'))) (onward-said w w') $ heard ! (Gone w w') (λ g. split ! $ move ! (1 ∷ []) $
         -- the same, with _4
@@ -187,14 +187,14 @@ module _ {M : Type 1} {𝓤 : Ura M} (𝓛 : Logic 𝓤) (mem : Memory → SProp
 
   node-walks : (C : Calls 𝓤 H) (Λ : Loops 𝓤 H) → FmC 𝓤 H 𝓛.laws C → Triple 𝓤 (C #walker·open) (Open 𝓛 mem run) → Triple 𝓤 (C #walker·onward) (Onward 𝓛 mem run) → Triple 𝓤 (C #walker·show) (Show 𝓛 mem run)
       → Walks 𝓛 node.ended stayed (WpFn 𝓤 H C Λ code.function) (node.clauses 𝓛 mem run)
-  node-walks C Λ fm known-open known-onward known-show = walked 𝓛 node.ended stayed (node.clauses 𝓛 mem run) (WpFn 𝓤 H C Λ code.function) (λ κs. (shr_slice_vals, (LL.vals N.the_type N'.the_laws, tt))) (λ κs. (shr_slice_Tells (named 0) κs.0 u8, (LL.tells N.the_type N'.the_laws, tt)))
-      (λ κs qs bounds a g are. via 𝓤 _ (fst∗ 𝓤 _ (emp 𝓤)) (walk 𝓛 mem run κs.0 qs.0 a.0 a.1.0 (LL.owed N.the_type N'.the_laws a.1.0 _ are.1.0).0.1 C Λ fm known-open known-onward known-show are.0 are.1.0))
+  node-walks C Λ fm known-open known_onward known-show = walked 𝓛 node.ended stayed (node.clauses 𝓛 mem run) (WpFn 𝓤 H C Λ code.function) (λ κs. (shr_slice_vals, (LL.vals N.the_type N'.the_laws, tt))) (λ κs. (shr_slice_Tells (named 0) κs.0 u8, (LL.tells N.the_type N'.the_laws, tt)))
+      (λ κs qs bounds a g are. via 𝓤 _ (fst∗ 𝓤 _ (emp 𝓤)) (walk 𝓛 mem run κs.0 qs.0 a.0 a.1.0 (LL.owed N.the_type N'.the_laws a.1.0 _ are.1.0).0.1 C Λ fm known-open known_onward known-show are.0 are.1.0))
 
 node-meets : {M : Type 1} {𝓤 : Ura M} (𝓛 : Logic 𝓤) (mem : Memory → SProp 𝓤) (run : Routine → Fun 𝓤) (𝓣 : Tables 𝓤 𝓛.H)
     → Triple 𝓤 (𝓣.C #walker·open) (Open 𝓛 mem run) → Triple 𝓤 (𝓣.C #walker·onward) (Onward 𝓛 mem run) → Triple 𝓤 (𝓣.C #walker·show) (Show 𝓛 mem run)
     → Meets 𝓛 node.signature (WpFn 𝓤 𝓛.H 𝓣.C 𝓣.Λ code.function) (node.spec 𝓛 mem run)
-node-meets {𝓤 = 𝓤} 𝓛 mem run 𝓣 known-open known-onward known-show = walk_Meets 𝓛 node.ended stayed (Goes-none_slice 𝓛 1 (0 ∷ []) tt (plain (λ _. u8)) yes, (Goes-none 𝓛 1 (λ _. N.the_row) yes (λ κs x f. refl), tt)) (node.clauses 𝓛 mem run) (WpFn 𝓤 𝓛.H 𝓣.C 𝓣.Λ code.function) (WpFn-mono 𝓤 𝓛.H 𝓛.laws 𝓣 code.function)
-    (node-walks 𝓛 mem run 𝓣.C 𝓣.Λ (fm_of 𝓤 𝓛.H 𝓛.laws 𝓣) known-open known-onward known-show)
+node-meets {𝓤 = 𝓤} 𝓛 mem run 𝓣 known-open known_onward known-show = walk_Meets 𝓛 node.ended stayed (Goes-none_slice 𝓛 1 (0 ∷ []) tt (plain (λ _. u8)) yes, (Goes-none 𝓛 1 (λ _. N.the_row) yes (λ κs x f. refl), tt)) (node.clauses 𝓛 mem run) (WpFn 𝓤 𝓛.H 𝓣.C 𝓣.Λ code.function) (WpFn-mono 𝓤 𝓛.H 𝓛.laws 𝓣 code.function)
+    (node-walks 𝓛 mem run 𝓣.C 𝓣.Λ (fm_of 𝓤 𝓛.H 𝓛.laws 𝓣) known-open known_onward known-show)
 
 pub node-spec : {M : Type 1} → stated.statement M
 unfolding code.routine tables_of

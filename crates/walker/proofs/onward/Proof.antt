@@ -43,7 +43,7 @@ use Rattle.walker.proofs.cursor_after.Met as called-thm
 use Rattle.walker.specs.declared.Walker.{Walker}
 use Rattle.walker.specs.contracts.Walker as T
 use Rattle.walker.proofs.Walker.TheLaws as T'
-use Rattle.walker.proofs.Held.{B, lent, standing, walking, mach, Own, Parts, apart, made, together, made-typed, record-typed, cursor-typed, record_is, cursor-is}
+use Rattle.walker.proofs.Held.{B, lent, standing, walking, mach, Own, Parts, apart, made, together, made_typed, record_typed, cursor_typed, record_is, cursor_is}
 use Rattle.walker.specs.contracts.onward.Key.{name as #walker·onward}
 use Rattle.walker.specs.contracts.onward as onward
 use Rattle.walker.proofs.onward.Statement as stated
@@ -106,18 +106,18 @@ module _ {M : Type 1} {𝓤 : Ura M} (𝓛 : Logic 𝓤) (mem : Memory → SProp
     walk : Is (B (κ, tt)) d (mach κ d ∷ []) → ent 𝓤 (on_entry 𝓛 onward.signature (κ, tt) (q, tt) (d, (k, tt)) at) (WpFn 𝓤 H C Λ code.function (mach κ d ∷ vint w16 k ∷ []) Post)
     walk p =
         qed 𝓛 (raw (on_entry 𝓛 onward.signature (κ, tt) (q, tt) (d, (k, tt)) at) ∷ []) ∵ enter ! C Λ code.function (mach κ d ∷ vint w16 k ∷ []) _ $
-        alloc1 ! (λ l₀. alloc1 ! (λ l₁. alloc1 ! (λ l₂. alloc1 ! (λ l₃. alloc1 ! (λ l₄. alloc1 ! (λ l₅. alloc1 ! (λ l₆. alloc0 ! $ params1 ! $ pass1 ! (init ! 10 refl (made-typed κ 𝓛 d.«record» d.cursor _ (record_is κ d p) (cursor-is κ d p))) $ pass1 ! (init ! 8 refl (tt, record { fits = ok })) $ pass0 ! $
-        assigns ! (of_opd ! (load ! (from ! (fld ! refl (stop !))) (look_in ! 10 (sub ! 0 refl (whole !))))) (from ! (stop !)) (init ! 6 refl (tt, record-typed κ 𝓛 d.«record» (record_is κ d p))) $
-        assigns ! (of_opd ! (load ! (from ! (fld ! refl (stop !))) (look_in ! 10 (sub ! 0 refl (whole !))))) (from ! (stop !)) (init ! 2 refl (tt, record-typed κ 𝓛 d.«record» (record_is κ d p))) $
-        assigns ! (of_opd ! (load ! (from ! (fld ! refl (stop !))) (look_in ! 10 (sub ! 1 refl (whole !))))) (from ! (stop !)) (init ! 0 refl (cursor-typed κ 𝓛 d.cursor _ (cursor-is κ d p))) $
+        alloc1 ! (λ l₀. alloc1 ! (λ l₁. alloc1 ! (λ l₂. alloc1 ! (λ l₃. alloc1 ! (λ l₄. alloc1 ! (λ l₅. alloc1 ! (λ l₆. alloc0 ! $ params1 ! $ pass1 ! (init ! 10 refl (made_typed κ 𝓛 d.«record» d.cursor _ (record_is κ d p) (cursor_is κ d p))) $ pass1 ! (init ! 8 refl (tt, record { fits = ok })) $ pass0 ! $
+        assigns ! (of_opd ! (load ! (from ! (fld ! refl (stop !))) (look_in ! 10 (sub ! 0 refl (whole !))))) (from ! (stop !)) (init ! 6 refl (tt, record_typed κ 𝓛 d.«record» (record_is κ d p))) $
+        assigns ! (of_opd ! (load ! (from ! (fld ! refl (stop !))) (look_in ! 10 (sub ! 0 refl (whole !))))) (from ! (stop !)) (init ! 2 refl (tt, record_typed κ 𝓛 d.«record» (record_is κ d p))) $
+        assigns ! (of_opd ! (load ! (from ! (fld ! refl (stop !))) (look_in ! 10 (sub ! 1 refl (whole !))))) (from ! (stop !)) (init ! 0 refl (cursor_typed κ 𝓛 d.cursor _ (cursor_is κ d p))) $
         move ! (14 ∷ []) $ use1 𝓛 (raw ((Called 𝓛 mem run).pre to) ⊛ ‵ (Own κ d)) gives $ split ! $
         calls_at ! fm (Called 𝓛 mem run) known to (and_then ! (load ! (from ! (stop !)) (look ! 4 refl)) (and_then ! (load ! (from ! (stop !)) (look ! 2 refl)) (and_then ! (load ! (from ! (stop !)) (look ! 10 refl)) (no_more !)))) (λ u.
         use1 𝓛 (later (some (λ (r : Cursor). ((‵ (flft κ q) ⊛ ‵ ftrue) ⊛ ‵ ((C'.the_row).own_val r (u ∷ []))) ⊛ raw (ensured 𝓛 called.ended (called.clauses 𝓛 mem run) (κ, tt) (d.«record», (d.cursor, (k, tt))) tt r)))) (id⊢ 𝓤 _) $ await ! tt $ pick ! (λ r.
         split ! $ move ! (1 ∷ []) $ use1 𝓛 (raw (fact 𝓤 (Promise r))) (said r) $ heard ! (Promise r) (λ e. split ! $ move ! (1 ∷ []) $
         -- [the new cursor; the token; what the walker owns; _6; …; _5; …; room for _4; …; _3; …; _2; …; _1; …; room for _0; …]
         peeks ! C'.the_row (Is C'.the_row) (shows 𝓛 C'.the_row) r (u ∷ []) (λ is.
-        land ! (from ! (stop !)) (init ! 7 refl (cursor-typed κ 𝓛 r u is)) $
-        assigns ! (agg ! (and_then ! (load ! (from ! (stop !)) (look ! 9 refl)) (and_then ! (load ! (from ! (stop !)) (look ! 7 refl)) (no_more !)))) (from ! (stop !)) (init ! 15 refl (made-typed κ 𝓛 d.«record» r u (record_is κ d p) is)) $
+        land ! (from ! (stop !)) (init ! 7 refl (cursor_typed κ 𝓛 r u is)) $
+        assigns ! (agg ! (and_then ! (load ! (from ! (stop !)) (look ! 9 refl)) (and_then ! (load ! (from ! (stop !)) (look ! 7 refl)) (no_more !)))) (from ! (stop !)) (init ! 15 refl (made_typed κ 𝓛 d.«record» r u (record_is κ d p) is)) $
         returns ! (look ! 15 refl) $ forget ! 3 refl $ forget ! 5 refl $ forget ! 7 refl $ forget ! 9 refl $ forget ! 11 refl $ forget ! 13 refl $ forget ! 15 refl $
         move ! (15 ∷ 16 ∷ []) $ free1 ! $ move ! (13 ∷ 14 ∷ []) $ free1 ! $ move ! (11 ∷ 12 ∷ []) $ free1 ! $ move ! (9 ∷ 10 ∷ []) $ free1 ! $ move ! (7 ∷ 8 ∷ []) $ free1 ! $ move ! (5 ∷ 6 ∷ []) $ free1 ! $ move ! (3 ∷ 4 ∷ []) $ free1 ! $ free0 ! $ by ! (exits r u e))))))))))))
 

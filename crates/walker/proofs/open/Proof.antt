@@ -39,7 +39,7 @@ use Rattle.cursor.specs.contracts.open as called
 use Rattle.cursor.proofs.open.Symbol as called-def
 use Rattle.cursor.proofs.open.Symbol.{name as #cursor·open}
 use Rattle.cursor.proofs.open.Met as called-thm
-use Rattle.walker.proofs.Held.{lent, walking, Lent, made, together, made-typed, record-typed, cursor-typed}
+use Rattle.walker.proofs.Held.{lent, walking, Lent, made, together, made_typed, record_typed, cursor_typed}
 use Rattle.walker.specs.contracts.open.Key.{name as #walker·open}
 use Rattle.walker.specs.contracts.open as opened
 use Rattle.walker.proofs.open.Statement as stated
@@ -96,15 +96,15 @@ module _ {M : Type 1} {𝓤 : Ura M} (𝓛 : Logic 𝓤) (mem : Memory → SProp
     walk : Is (ShrSlice (named 0) κ u8) s (lent s ∷ []) → ent 𝓤 (on_entry 𝓛 opened.signature (κ, tt) (q, tt) (s, tt) passed) (WpFn 𝓤 H C Λ code.function (lent s ∷ []) Post)
     walk p =
         qed 𝓛 (raw (on_entry 𝓛 opened.signature (κ, tt) (q, tt) (s, tt) passed) ∷ []) ∵ enter ! C Λ code.function (lent s ∷ []) _ $
-        alloc1 ! (λ l₀. alloc1 ! (λ l₁. alloc1 ! (λ l₂. alloc0 ! $ params1 ! $ pass1 ! (init ! 2 refl (tt, record-typed κ 𝓛 s p)) $ pass0 ! $
+        alloc1 ! (λ l₀. alloc1 ! (λ l₁. alloc1 ! (λ l₂. alloc0 ! $ params1 ! $ pass1 ! (init ! 2 refl (tt, record_typed κ 𝓛 s p)) $ pass0 ! $
         move ! (6 ∷ []) $ use1 𝓛 (raw ((Called 𝓛 mem run).pre to) ⊛ ‵ (Lent κ s)) gives $ split ! $
         calls_at ! fm (Called 𝓛 mem run) known to (and_then ! (load ! (from ! (stop !)) (look ! 4 refl)) (no_more !)) (λ u.
         use1 𝓛 (later (some (λ (r : Cursor). ((‵ (flft κ q) ⊛ ‵ ftrue) ⊛ ‵ ((C'.the_row).own_val r (u ∷ []))) ⊛ raw (ensured 𝓛 called.ended (called.clauses 𝓛 mem run) (κ, tt) (s, tt) tt r)))) (id⊢ 𝓤 _) $ await ! tt $ pick ! (λ r.
         split ! $ move ! (1 ∷ []) $ use1 𝓛 (raw (fact 𝓤 (Promise r))) (said r) $ heard ! (Promise r) (λ e. split ! $ move ! (1 ∷ []) $
         -- [the cursor; the token; what the record owns; room for _2; …; _1; …; room for _0; …]
         peeks ! C'.the_row (Is C'.the_row) (shows 𝓛 C'.the_row) r (u ∷ []) (λ is.
-        land ! (from ! (stop !)) (init ! 3 refl (cursor-typed κ 𝓛 r u is)) $
-        assigns ! (agg ! (and_then ! (load ! (from ! (stop !)) (look ! 5 refl)) (and_then ! (load ! (from ! (stop !)) (look ! 3 refl)) (no_more !)))) (from ! (stop !)) (init ! 7 refl (made-typed κ 𝓛 s r u p is)) $
+        land ! (from ! (stop !)) (init ! 3 refl (cursor_typed κ 𝓛 r u is)) $
+        assigns ! (agg ! (and_then ! (load ! (from ! (stop !)) (look ! 5 refl)) (and_then ! (load ! (from ! (stop !)) (look ! 3 refl)) (no_more !)))) (from ! (stop !)) (init ! 7 refl (made_typed κ 𝓛 s r u p is)) $
         returns ! (look ! 7 refl) $ forget ! 3 refl $ forget ! 5 refl $ forget ! 7 refl $
         move ! (7 ∷ 8 ∷ []) $ free1 ! $ move ! (5 ∷ 6 ∷ []) $ free1 ! $ move ! (3 ∷ 4 ∷ []) $ free1 ! $ free0 ! $ by ! (exits r u e))))))))
 

@@ -40,7 +40,7 @@ use Rattle.cursor.proofs.show.Met as called-thm
 use Rattle.walker.specs.declared.Walker.{Walker}
 use Rattle.walker.specs.contracts.Walker as T
 use Rattle.walker.proofs.Walker.TheLaws as T'
-use Rattle.walker.proofs.Held.{B, lent, standing, mach, Own, Parts, apart, made-typed, record-typed, cursor-typed, record_is, cursor-is}
+use Rattle.walker.proofs.Held.{B, lent, standing, mach, Own, Parts, apart, made_typed, record_typed, cursor_typed, record_is, cursor_is}
 use Rattle.walker.specs.contracts.show.Key.{name as #walker·show}
 use Rattle.walker.specs.contracts.show as show
 use Rattle.walker.proofs.show.Statement as stated
@@ -95,9 +95,9 @@ module _ {M : Type 1} {𝓤 : Ura M} (𝓛 : Logic 𝓤) (mem : Memory → SProp
     walk : Is (B (κ, tt)) d (mach κ d ∷ []) → ent 𝓤 (on_entry 𝓛 show.signature (κ, tt) (q, tt) (d, tt) (mach κ d ∷ [], tt)) (WpFn 𝓤 H C Λ code.function (mach κ d ∷ []) Post)
     walk p =
         qed 𝓛 (raw (on_entry 𝓛 show.signature (κ, tt) (q, tt) (d, tt) (mach κ d ∷ [], tt)) ∷ []) ∵ enter ! C Λ code.function (mach κ d ∷ []) _ $
-        alloc1 ! (λ l₀. alloc1 ! (λ l₁. alloc1 ! (λ l₂. alloc1 ! (λ l₃. alloc0 ! $ params1 ! $ pass1 ! (init ! 4 refl (made-typed κ 𝓛 d.«record» d.cursor _ (record_is κ d p) (cursor-is κ d p))) $ pass0 ! $
-        assigns ! (of_opd ! (load ! (from ! (fld ! refl (stop !))) (look_in ! 4 (sub ! 0 refl (whole !))))) (from ! (stop !)) (init ! 2 refl (tt, record-typed κ 𝓛 d.«record» (record_is κ d p))) $
-        assigns ! (of_opd ! (load ! (from ! (fld ! refl (stop !))) (look_in ! 4 (sub ! 1 refl (whole !))))) (from ! (stop !)) (init ! 0 refl (cursor-typed κ 𝓛 d.cursor _ (cursor-is κ d p))) $
+        alloc1 ! (λ l₀. alloc1 ! (λ l₁. alloc1 ! (λ l₂. alloc1 ! (λ l₃. alloc0 ! $ params1 ! $ pass1 ! (init ! 4 refl (made_typed κ 𝓛 d.«record» d.cursor _ (record_is κ d p) (cursor_is κ d p))) $ pass0 ! $
+        assigns ! (of_opd ! (load ! (from ! (fld ! refl (stop !))) (look_in ! 4 (sub ! 0 refl (whole !))))) (from ! (stop !)) (init ! 2 refl (tt, record_typed κ 𝓛 d.«record» (record_is κ d p))) $
+        assigns ! (of_opd ! (load ! (from ! (fld ! refl (stop !))) (look_in ! 4 (sub ! 1 refl (whole !))))) (from ! (stop !)) (init ! 0 refl (cursor_typed κ 𝓛 d.cursor _ (cursor_is κ d p))) $
         move ! (8 ∷ []) $ use1 𝓛 (raw ((Called 𝓛 mem run).pre to) ⊛ ‵ (Own κ d)) gives $ split ! $
         calls_at ! fm (Called 𝓛 mem run) known to (and_then ! (load ! (from ! (stop !)) (look ! 4 refl)) (and_then ! (load ! (from ! (stop !)) (look ! 2 refl)) (no_more !))) (λ u.
         use1 𝓛 (later (some (λ (r : Shown). ((‵ (flft κ q) ⊛ ‵ ftrue) ⊛ ‵ ((S.the_row).own_val r (u ∷ []))) ⊛ raw (ensured 𝓛 called.ended (called.clauses 𝓛 mem run) (κ, tt) (d.«record», (d.cursor, tt)) tt r)))) (id⊢ 𝓤 _) $ await ! tt $ pick ! (λ r.

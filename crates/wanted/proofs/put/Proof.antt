@@ -4,13 +4,13 @@ use Rattle.wanted.proofs.put.Statement.{statement}
 use Rattle.wanted.proofs.put.Tie as tie
 use native.Mathlib.Omega.{arith}
 use lib.ListN.{length-set}
-use Rattle.wanted.proofs.Noting.{keeps-written, keeps-nothing}
+use Rattle.wanted.proofs.Noting.{keeps_written, keeps_nothing}
 
 returns : tie.Need-returns
-returns c = keeps-nothing c.before.args.place c.before.args.set c.before.args.row.now c.if1.true
+returns c = keeps_nothing c.before.args.place c.before.args.set c.before.args.row.now c.if1.true
 
 returns-2 : tie.Need-returns-2
-returns-2 c = keeps-written c.before.args.place c.before.args.set c.before.args.row.now c.if1.false
+returns-2 c = keeps_written c.before.args.place c.before.args.set c.before.args.row.now c.if1.false
 
 pub put_spec : {M : Type 1} → statement M
 put_spec =

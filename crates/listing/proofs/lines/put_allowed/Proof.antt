@@ -1,5 +1,5 @@
 -- `put_allowed` is safe and ends: the keys that the listing left in the row ascend, so that their labels can be asked for.
-use Rattle.format.specs.Limits.{node-limit}
+use Rattle.format.specs.Limits.{node_limit}
 use Rattle.labels.proofs.Listed.{unlabelled}
 use Rattle.listing.proofs.Undos.{listed, few}
 use borrow.Author.Rules.{rules}
@@ -19,10 +19,10 @@ enum-known-count : tie.Need-enum-known-count
 enum-known-count c = search rules
 
 undo-labels-requires : tie.Need-undo-labels-requires
-undo-labels-requires c κs = let w = listed c.before.before.before.before.before.before.before.before.before.before.before.before.args.bytes.now _ _ (λ i. (c.before.before.before.before.before.before.before.before.before.before.shared-slice-known.given i).fits) c.before.before.before.before.before.before.before.undo-listing.result c.before.before.before.before.before.before.before.undo-listing.ensures _ c.before.before.before.count.given.1 in let h = few node-limit _ w.2 in (w.0, (w.1, (h, search rules, unlabelled node-limit _ h)))
+undo-labels-requires c κs = let w = listed c.before.before.before.before.before.before.before.before.before.before.before.before.args.bytes.now _ _ (λ i. (c.before.before.before.before.before.before.before.before.before.before.shared-slice-known.given i).fits) c.before.before.before.before.before.before.before.undo-listing.result c.before.before.before.before.before.before.before.undo-listing.ensures _ c.before.before.before.count.given.1 in let h = few node_limit _ w.2 in (w.0, (w.1, (h, search rules, unlabelled node_limit _ h)))
 
 put-undos-requires : tie.Need-put-undos-requires
-put-undos-requires c κs = let w = listed c.before.before.before.before.before.before.before.before.before.before.before.before.before.before.before.before.args.bytes.now _ _ (λ i. (c.before.before.before.before.before.before.before.before.before.before.before.before.before.before.shared-slice-known.given i).fits) c.before.before.before.before.before.before.before.before.before.before.before.undo-listing.result c.before.before.before.before.before.before.before.before.before.before.before.undo-listing.ensures _ c.before.before.before.before.before.before.before.count.given.1 in (c.before.before.before.before.before.before.before.before.before.before.before.before.before.before.before.before.requires.0, c.before.before.before.before.before.before.before.before.before.before.before.before.before.before.before.before.requires.1, w.1.room, few node-limit _ w.2)
+put-undos-requires c κs = let w = listed c.before.before.before.before.before.before.before.before.before.before.before.before.before.before.before.before.args.bytes.now _ _ (λ i. (c.before.before.before.before.before.before.before.before.before.before.before.before.before.before.shared-slice-known.given i).fits) c.before.before.before.before.before.before.before.before.before.before.before.undo-listing.result c.before.before.before.before.before.before.before.before.before.before.before.undo-listing.ensures _ c.before.before.before.before.before.before.before.count.given.1 in (c.before.before.before.before.before.before.before.before.before.before.before.before.before.before.before.before.requires.0, c.before.before.before.before.before.before.before.before.before.before.before.before.before.before.before.before.requires.1, w.1.room, few node_limit _ w.2)
 
 returns : tie.Need-returns
 returns c = search rules

@@ -14,18 +14,18 @@ use mathlib.Core.Path.{◌≡◌, refl, ◌∙◌}
 use native.Mathlib.Omega.{arith}
 use Prim.Native.Nat.{◌≤◌, ◌-◌}
 use lib.ListN.{length}
-use Rattle.format.specs.Limits.{node-limit}
+use Rattle.format.specs.Limits.{node_limit}
 use Rattle.partners.specs.Way.{Way}
-use Rattle.partners.proofs.Ways.{way-start, way_later}
+use Rattle.partners.proofs.Ways.{way_start, way_later}
 
 abbrev invariant-loop : tie.invariant-loop
-invariant-loop space₀ n forms args ends marks sets nodes mates₀ way₀ to₀ head₀ at₀ i₀ space mates way to head at i = (at ≤ 4096) × (length space ≡ 4096) × (length mates ≡ node-limit) × (length head ≡ 16) × Way forms args ends way i to.turns to.node × (length way ≡ node-limit)
+invariant-loop space₀ n forms args ends marks sets nodes mates₀ way₀ to₀ head₀ at₀ i₀ space mates way to head at i = (at ≤ 4096) × (length space ≡ 4096) × (length mates ≡ node_limit) × (length head ≡ 16) × Way forms args ends way i to.turns to.node × (length way ≡ node_limit)
 
 abbrev decreases-loop : tie.decreases-loop
 decreases-loop space₀ n forms args ends marks sets nodes mates₀ way₀ to₀ head₀ at₀ i₀ space mates way to head at i = nodes - i
 
 loop-holds : tie.Need-loop-init invariant-loop decreases-loop
-loop-holds c = (c.before.before.before.requires.0.0, c.before.before.before.requires.0.1, refl, refl, way-start c.before.before.before.requires.1.0 c.root.ensures, refl)
+loop-holds c = (c.before.before.before.requires.0.0, c.before.before.before.requires.0.1, refl, refl, way_start c.before.before.before.requires.1.0 c.root.ensures, refl)
 
 element-copy-out-if1 : tie.Need-element-copy-out-if1 invariant-loop decreases-loop
 element-copy-out-if1 c = omega (arith, c.before.before.before.before.before.requires.0.2, c.before.before.before.before.before.requires.0.3, c.loop-test.true)

@@ -1,6 +1,6 @@
 -- `put` meets its contract: one more key in the row, or none.
 use native.Mathlib.Omega.{arith}
-use Rattle.undos.proofs.Listings.{put-ready, put_other}
+use Rattle.undos.proofs.Listings.{put_ready, put_other}
 use borrow.Author.Rules.{rules}
 use Rattle.undos.proofs.listing.put.Statement.{statement}
 use Rattle.undos.proofs.listing.put.Tie as tie
@@ -27,7 +27,7 @@ same_length : tie.Need-same-length
 same_length c = search rules
 
 returns : tie.Need-returns
-returns c = put-ready c.before.before.before.args.state.now c.before.before.before.args.slot.now c.before.before.before.args.r c.before.before.before.args.row.now c.before.before.before.args.m c.before.if1.true (c.before.before.before.requires.1.0 c.before.if1.true)
+returns c = put_ready c.before.before.before.args.state.now c.before.before.before.args.slot.now c.before.before.before.args.r c.before.before.before.args.row.now c.before.before.before.args.m c.before.if1.true (c.before.before.before.requires.1.0 c.before.if1.true)
 
 returns-2 : tie.Need-returns-2
 returns-2 c = put_other c.before.before.args.state.now c.before.before.args.slot.now c.before.before.args.r c.before.before.args.row.now c.before.before.args.m c.if1.false
