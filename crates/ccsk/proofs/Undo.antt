@@ -66,26 +66,30 @@ labels_kept n (restrict f d) p e = labels_kept n d p e
 pub has_kept : {t u : Term} {m l : ℕ} (n : ℕ) → Undo t m l u → 0 < n → n ≢ m → ¬ Has n t ↔ ¬ Has n u
 has_kept {t} {u} n d p e = (λ f. labels_fresh n u (rw (labels_kept n d p e) at (fresh_labels n t f)), λ f. labels_fresh n t (rw (labels_kept n d p e) (fresh_labels n u f)))
 
+-- two undos of one term by keys that are equal
+undo_alike : {t u v : Term} {m n l k : ℕ} → Undo t m l u → Undo t n k v → m ≡ n → (l ≡ k) × (u ≡ v)
+undo_alike (top h s) (top h' s') q = (refl, refl)
+undo_alike (top h s) (prefix h' f e) q = absurd (f (sym q))
+undo_alike (prefix h f d) (top h' s) q = absurd (f q)
+undo_alike (prefix {a = a} {n = n} h f d) (prefix h' f' e) q = let i = undo_alike d e q in (i.0, ap (pre a n) i.1)
+undo_alike (choice₁ s d) (choice₁ s' e) q = let i = undo_alike d e q in (i.0, cc)
+undo_alike (choice₁ s d) (choice₂ s' e) q = absurd (std_stuck s' d)
+undo_alike (choice₂ s d) (choice₁ s' e) q = absurd (std_stuck s' d)
+undo_alike (choice₂ s d) (choice₂ s' e) q = let i = undo_alike d e q in (i.0, cc)
+undo_alike (par₁ f d) (par₁ f' e) q = let i = undo_alike d e q in (i.0, cc)
+undo_alike (par₁ f d) (par₂ f' e) q = absurd (f' (rw q at (present d)))
+undo_alike (par₁ f d) (synch c e e') q = absurd (f (rw (← q) at (present e')))
+undo_alike (par₂ f d) (par₁ f' e) q = absurd (f' (rw q at (present d)))
+undo_alike (par₂ f d) (par₂ f' e) q = let i = undo_alike d e q in (i.0, cc)
+undo_alike (par₂ f d) (synch c e e') q = absurd (f (rw (← q) at (present e)))
+undo_alike (synch c d d') (par₁ f e) q = absurd (f (rw q at (present d')))
+undo_alike (synch c d d') (par₂ f e) q = absurd (f (rw q at (present d)))
+undo_alike (synch c d d') (synch c' e e') q = let i = undo_alike d e q in let j = undo_alike d' e' q in (refl, cc)
+undo_alike (restrict {a = a} f d) (restrict f' e) q = let i = undo_alike d e q in (i.0, ap (res a) i.1)
+
 -- at most one undo for a key
 pub undo_once : {t u v : Term} {m l k : ℕ} → Undo t m l u → Undo t m k v → (l ≡ k) × (u ≡ v)
-undo_once (top h s) (top h' s') = (refl, refl)
-undo_once (top h s) (prefix h' n e) = absurd (n refl)
-undo_once (prefix h n d) (top h' s) = absurd (n refl)
-undo_once (prefix {a = a} {n = n} h f d) (prefix h' f' e) = let i = undo_once d e in (i.0, ap (pre a n) i.1)
-undo_once (choice₁ s d) (choice₁ s' e) = let i = undo_once d e in (i.0, cc)
-undo_once (choice₁ s d) (choice₂ s' e) = absurd (std_stuck s' d)
-undo_once (choice₂ s d) (choice₁ s' e) = absurd (std_stuck s' d)
-undo_once (choice₂ s d) (choice₂ s' e) = let i = undo_once d e in (i.0, cc)
-undo_once (par₁ f d) (par₁ f' e) = let i = undo_once d e in (i.0, cc)
-undo_once (par₁ f d) (par₂ f' e) = absurd (f' (present d))
-undo_once (par₁ f d) (synch c e e') = absurd (f (present e'))
-undo_once (par₂ f d) (par₁ f' e) = absurd (f' (present d))
-undo_once (par₂ f d) (par₂ f' e) = let i = undo_once d e in (i.0, cc)
-undo_once (par₂ f d) (synch c e e') = absurd (f (present e))
-undo_once (synch c d d') (par₁ f e) = absurd (f (present d'))
-undo_once (synch c d d') (par₂ f e) = absurd (f (present d))
-undo_once (synch c d d') (synch c' e e') = let i = undo_once d e in let j = undo_once d' e' in (refl, cc)
-undo_once (restrict {a = a} f d) (restrict f' e) = let i = undo_once d e in (i.0, ap (res a) i.1)
+undo_once d e = undo_alike d e refl
 
 pub blank_kept : {t u : Term} {m l : ℕ} → Undo t m l u → blank t ≡ blank u
 unfolding blank

@@ -1,1 +1,2 @@
 // The calculus has no code: its definitions are in specs/, its theorems in proofs/.
+#![tactic(auto)]

@@ -1,5 +1,7 @@
 // The keys that a chain of links leads to from a key. Each key that is reached waits in a queue for its own links to be followed, so that
 // none is followed twice. Helpers between crates, with what each asks of its caller.
+#![tactic(auto)]
+
 ghost use Rattle.std.specs.Prelude.{◌≡◌, [], suc, ◌<◌, length};
 ghost use Rattle.format.specs.Limits.{node_limit};
 ghost use Rattle.keys.specs.Gather.{Holds};

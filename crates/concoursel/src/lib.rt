@@ -1,4 +1,6 @@
 // The entries for a host: every operation on numbers, byte slices and rows. Each calls the proved operation and packs its answer into one number.
+#![tactic(auto)]
+
 ghost use Rattle.operations.specs.Ask.{ReadRecord, ShownNode, KeyCount, FreeKey, FirstStep, UndoListing, WaitingList, Soundness};
 ghost use Rattle.operations.specs.Change.{ForwardStep, UndoStep, BlankForm};
 ghost use Rattle.operations.specs.TakeBack.{TakeBack};

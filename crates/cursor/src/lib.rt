@@ -1,4 +1,6 @@
 // A plain cursor over a record (01, The record): it shows kind, body and depth of each node in preorder, and goes on to the next.
+#![tactic(auto)]
+
 ghost use Rattle.cursor.specs.At.{Opens, Shows, Goes, DueAt, Made};
 
 use reader::{DEPTH, Head};
@@ -10,7 +12,7 @@ const NODES: u16 = reader::NODES as u16;
 const LEVELS: u16 = reader::DEPTH as u16;
 
 // A refusal number, or where the next node stands, its number, and the depths of the `many` nodes that are due: the next one last.
-#[derive(Drop)]
+#[derive(Clone, Copy)]
 pub struct Cursor {
     pub refusal: u8,
     pub at: usize,
@@ -20,7 +22,7 @@ pub struct Cursor {
 }
 
 // Nothing, or a node: its kind, where its body begins and how long it is, its depth.
-#[derive(Drop)]
+#[derive(Clone, Copy)]
 pub enum Shown {
     Nothing,
     Node {

@@ -1,5 +1,7 @@
 // Whether a relation on small numbers has a cycle (01, Soundness, 7): numbers that stand above none that is left are taken out, one by one.
 // Helpers between crates, with what each asks of its caller.
+#![tactic(auto)]
+
 ghost use Rattle.std.specs.Prelude.{◌≡◌, ◌↔◌, true, ◌+◌, ◌<◌, ◌≤◌, length, get_or, replicate};
 ghost use Rattle.causes.specs.Columns.{Below};
 ghost use Rattle.cycles.specs.Graph.{Columns, Acyclic};

@@ -1,6 +1,8 @@
 // The links of a record, from a key to the keys right below its prefixes, filed in drawers, so that few others are looked at on the way to
 // the links of a key.
 // Helpers between crates, with what each asks of its caller.
+#![tactic(auto)]
+
 ghost use Rattle.std.specs.Prelude.{◌≡◌, ◌<◌, ◌≤◌, length};
 ghost use Rattle.format.specs.Limits.{node_limit};
 ghost use Rattle.filing.specs.Cabinet.{cabinet, Sized, Empty, drawer, Files};
@@ -18,7 +20,7 @@ const SHIFT: usize = 257;
 
 // What filing a record comes to, for a key that was asked for: the bytes are refused, the key does not stand there, or it does, and so many
 // links are filed.
-#[derive(Drop)]
+#[derive(Clone, Copy)]
 pub enum Found {
     Refused(u8),
     Absent,

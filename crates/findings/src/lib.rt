@@ -1,4 +1,6 @@
 // What one pass finds of a part of a record, and how the moves of its parts combine at each node.
+#![tactic(auto)]
+
 ghost use Rattle.std.specs.Prelude.{◌≡◌};
 ghost use Rattle.moves.specs.Move.{move_over_prefix, move_over_choice, move_over_parallel, move_over_restriction};
 ghost use Rattle.findings.specs.Seen.{move_of, choice_of, may_of};
@@ -6,7 +8,7 @@ ghost use Rattle.findings.specs.Seen.{move_of, choice_of, may_of};
 use shared::{NOT_DONE, Name, TAU, complementary, is_on};
 
 // The chosen prefixes of a part: none is there; all that are there step together, with this label; or they do not.
-#[derive(Drop)]
+#[derive(Clone, Copy)]
 pub enum Move {
     Still,
     Step(u8),
@@ -15,7 +17,7 @@ pub enum Move {
 
 // A step that is asked about. If `undo` holds, the undo of the key, and p and q say nothing; if not, the forward step
 // with the key at the node p, or at the nodes p and q if q is not 0.
-#[derive(Drop)]
+#[derive(Clone, Copy)]
 pub struct Ask {
     pub undo: bool,
     pub p: u16,
@@ -25,7 +27,7 @@ pub struct Ask {
 
 // What is found of a part: whether a prefix of it holds a key, whether one holds the key asked about, how many of its
 // prefixes are chosen, where the bytes of the first two begin (0 where there is none), and their move.
-#[derive(Drop)]
+#[derive(Clone, Copy)]
 pub struct Seen {
     pub any: bool,
     pub stands: bool,

@@ -1,4 +1,6 @@
 // The conditions 1 and 2 of 01 (Soundness), decided in one pass while the record is read.
+#![tactic(auto)]
+
 ghost use Rattle.std.specs.Prelude.{◌+◌, ◌<◌, ◌≡◌, not, ◌&&◌, length};
 ghost use Rattle.folds.specs.Folded.{OfNil, OverOne, OverTwo, Folded, Looked};
 
@@ -6,7 +8,7 @@ use reader::{CHOICE, DEPTH, Head, NODES, PREFIX, node_due};
 use shared::{NO_RECORD, both, either};
 
 // Of a part of a record: whether a prefix holds a key, and whether the conditions 1 and 2 hold.
-#[derive(Drop)]
+#[derive(Clone, Copy)]
 pub struct Marks {
     pub holds: bool,
     pub waits: bool,
@@ -14,14 +16,14 @@ pub struct Marks {
 }
 
 // What a pass over the term at a place comes to: a refusal, or where the term ends, how many nodes may still come, and its marks.
-#[derive(Drop)]
+#[derive(Clone, Copy)]
 pub enum Outcome {
     Refused(u8),
     Part(usize, usize, Marks),
 }
 
 // What a pass over a whole record comes to.
-#[derive(Drop)]
+#[derive(Clone, Copy)]
 pub enum Whole {
     Refused(u8),
     Marks(Marks),

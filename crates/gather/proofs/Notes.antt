@@ -80,11 +80,11 @@ module _ (s : List ℕ) (at kind n k l : ℕ) (c : Scopes) (all : List ℕ) (rs 
       → Noted (n + 1) t r.keys l (arrays c all₁ rs) k₂ l₂ (arrays c₂ all₂ rs₂) → OverPrefix s at r.keys k₂ l l₂ rs₂ c l₃ rs₃
       → Noted n (pre (name_at s at) (key_standing_at s at) t) k l (arrays c all rs) k₂ l₃ (arrays c₂ all₂ rs₃)
   unfolding keys lasts
-  own_prefix c₂ all₂ rs₂ rs₃ k₂ l₂ l₃ q e f N O = let w = O (take l rs) (lasts (n + 1) c t) (length-take-le l rs h) N.last-count N.noted-lasts in
-      let g : holds t ≡ not (eqb k₂ r.keys) = holds_counted t r.keys k₂ N.key-count in record {
-        same_scopes = N.same-scopes;
-        noted_keys = N.noted-keys ∙ rw (e, append_assoc (take k all) (done (key_standing_at s at) []) (keys t), ← done_front (key_standing_at s at) (keys t));
-        key_count = rw (done_front (key_standing_at s at) (keys t), length-append (done (key_standing_at s at) []) (keys t)) (omega (arith, N.key-count));
+  own_prefix c₂ all₂ rs₂ rs₃ k₂ l₂ l₃ q e f N O = let w = O (take l rs) (lasts (n + 1) c t) (length-take-le l rs h) N.last_count N.noted_lasts in
+      let g : holds t ≡ not (eqb k₂ r.keys) = holds_counted t r.keys k₂ N.key_count in record {
+        same_scopes = N.same_scopes;
+        noted_keys = N.noted_keys ∙ rw (e, append_assoc (take k all) (done (key_standing_at s at) []) (keys t), ← done_front (key_standing_at s at) (keys t));
+        key_count = rw (done_front (key_standing_at s at) (keys t), length-append (done (key_standing_at s at) []) (keys t)) (omega (arith, N.key_count));
         noted_lasts = rw g w.0;
         last_count = rw g w.1;
       }
@@ -95,27 +95,27 @@ module _ (s : List ℕ) (at kind n k l : ℕ) (c : Scopes) (all : List ℕ) (rs 
   noted_prefix c₁ c₂ all₂ rs₂ rs₃ k₂ l₂ l₃ q E N O = let e : c₁ ≡ c = E.unopened (λ z. omega arith) in
       own_prefix c₂ all₂ rs₂ rs₃ k₂ l₂ l₃ q (E.noted q) (E.counted q)
       (subst (λ (x : Scopes). Noted (n + 1) t r.keys l (arrays x all₁ rs) k₂ l₂ (arrays c₂ all₂ rs₂)) e N)
-      (subst (λ (x : Scopes). OverPrefix s at r.keys k₂ l l₂ rs₂ x l₃ rs₃) (N.same-scopes ∙ e) O)
+      (subst (λ (x : Scopes). OverPrefix s at r.keys k₂ l l₂ rs₂ x l₃ rs₃) (N.same_scopes ∙ e) O)
 
   pub noted_restriction : (c₁ c₂ c₃ : Scopes) (all₂ : List ℕ) (rs₂ : List Last) (k₂ l₂ : ℕ) → kind ≡ 4 → Enters s at kind n k all all₁ c c₁ r
       → Noted (n + 1) t r.keys l (arrays c₁ all₁ rs) k₂ l₂ (arrays c₂ all₂ rs₂) → c₃ ≡ closed (name_at s at) r.scope c₂
       → Noted n (res (name_at s at) t) k l (arrays c all rs) k₂ l₂ (arrays c₃ all₂ rs₂)
   unfolding keys lasts
   noted_restriction c₁ c₂ c₃ all₂ rs₂ k₂ l₂ q E N f = let o = E.other (λ z. omega arith) in let e = E.opened q in record {
-    same_scopes = f ∙ rw (N.same-scopes, e.0, e.1, set-set c (slot (name_at s at)) (n + 1) (scope_of c (name_at s at)), set-get_or c (slot (name_at s at)) 0);
-    noted_keys = rw (o.0, o.1) at N.noted-keys;
-    key_count = rw o.0 at N.key-count;
-    noted_lasts = rw e.0 at N.noted-lasts;
-    last_count = rw e.0 at N.last-count;
+    same_scopes = f ∙ rw (N.same_scopes, e.0, e.1, set-set c (slot (name_at s at)) (n + 1) (scope_of c (name_at s at)), set-get_or c (slot (name_at s at)) 0);
+    noted_keys = rw (o.0, o.1) at N.noted_keys;
+    key_count = rw o.0 at N.key_count;
+    noted_lasts = rw e.0 at N.noted_lasts;
+    last_count = rw e.0 at N.last_count;
   }
 
 -- a parallel or a choice, whose sides are noted one after the other
 module _ (n k l k₁ l₁ k₂ l₂ : ℕ) (t u : Term) (b b₁ b₂ : Lent) (h : l ≤ length b.rows) (N : Noted (n + 1) t k l b k₁ l₁ b₁) (M : Noted (n + 1 + size t) u k₁ l₁ b₁ k₂ l₂ b₂) where
   both_keys : take k₂ b₂.all ≡ take k b.all ++ (keys t ++ keys u)
-  both_keys = M.noted-keys ∙ rw (N.noted-keys, append_assoc (take k b.all) (keys t) (keys u))
+  both_keys = M.noted_keys ∙ rw (N.noted_keys, append_assoc (take k b.all) (keys t) (keys u))
 
   both_key_count : k₂ ≡ k + length (keys t ++ keys u)
-  both_key_count = rw (length-append (keys t) (keys u)) (omega (arith, N.key-count, M.key-count))
+  both_key_count = rw (length-append (keys t) (keys u)) (omega (arith, N.key_count, M.key_count))
 
   abbrev x : List Last
   x = lasts (n + 1) b.scopes t
@@ -124,15 +124,15 @@ module _ (n k l k₁ l₁ k₂ l₂ : ℕ) (t u : Term) (b b₁ b₂ : Lent) (h 
   y = lasts (n + 1 + size t) b.scopes u
 
   both_lasts : take l₂ b₂.rows ≡ take l b.rows ++ (x ++ y)
-  both_lasts = M.noted-lasts ∙ rw (N.noted-lasts, N.same-scopes, append_assoc (take l b.rows) x y)
+  both_lasts = M.noted_lasts ∙ rw (N.noted_lasts, N.same_scopes, append_assoc (take l b.rows) x y)
 
   both_last_count : l₂ ≡ l + length (x ++ y)
-  both_last_count = let e = rw N.same-scopes at M.last-count in rw (length-append x y) (omega (arith, N.last-count))
+  both_last_count = let e = rw N.same_scopes at M.last_count in rw (length-append x y) (omega (arith, N.last_count))
 
   pub noted_parallel : Noted n (par t u) k l b k₂ l₂ b₂
   unfolding keys lasts
   noted_parallel = record {
-    same_scopes = M.same-scopes ∙ N.same-scopes;
+    same_scopes = M.same_scopes ∙ N.same_scopes;
     noted_keys = both_keys;
     key_count = both_key_count;
     noted_lasts = both_lasts;
@@ -148,9 +148,9 @@ module _ (n k l k₁ l₁ k₂ l₂ : ℕ) (t u : Term) (b b₁ b₂ : Lent) (h 
   pub noted_choice : (kind l₃ : ℕ) → kind ≡ 2 → l₃ ≡ noted_over_two kind k k₁ k₂ l l₂ → Noted n (cho t u) k l b k₂ l₃ b₂
   unfolding keys lasts
   noted_choice kind l₃ q e = let w = choice_lasts (eqb k₁ k) (eqb k₂ k₁) refl refl l₃ (rw (eq-eqb kind 2 q) at e) in record {
-    same_scopes = M.same-scopes ∙ N.same-scopes;
+    same_scopes = M.same_scopes ∙ N.same_scopes;
     noted_keys = both_keys;
     key_count = both_key_count;
-    noted_lasts = rw (holds_counted t k k₁ N.key-count, holds_counted u k₁ k₂ M.key-count) w.0;
-    last_count = rw (holds_counted t k k₁ N.key-count, holds_counted u k₁ k₂ M.key-count) w.1;
+    noted_lasts = rw (holds_counted t k k₁ N.key_count, holds_counted u k₁ k₂ M.key_count) w.0;
+    last_count = rw (holds_counted t k k₁ N.key_count, holds_counted u k₁ k₂ M.key_count) w.1;
   }

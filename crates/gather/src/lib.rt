@@ -1,4 +1,6 @@
 // One pass over a record that reads it and notes, in lent arrays, its keys and the prefixes that can be the last to have been done.
+#![tactic(auto)]
+
 ghost use Rattle.std.specs.Prelude.{◌+◌, ◌≤◌};
 ghost use Rattle.format.specs.Limits.{node_limit};
 ghost use Rattle.gather.specs.Gather.{lent, Sized, Gathers};
@@ -9,7 +11,7 @@ use shared::NAMES;
 
 // What a pass over the term at a place comes to: a refusal, or where the term ends, how many nodes may still come, and how many keys and
 // lasts are noted now.
-#[derive(Drop)]
+#[derive(Clone, Copy)]
 pub enum Outcome {
     Refused(u8),
     Part(usize, usize, usize, usize),

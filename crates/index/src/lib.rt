@@ -1,5 +1,7 @@
 // The rows of a record: for each node how a search goes on from it, its action or name, and where what begins there ends. Two loops fill
 // them: the record is read from the first node to the last, then forms and ends are settled from the last node to the first.
+#![tactic(auto)]
+
 ghost use Rattle.std.specs.Prelude.{◌≡◌, false, ◌+◌, ◌<◌, length, get_or, set};
 ghost use Rattle.format.specs.Limits.{node_limit};
 ghost use Rattle.offers.specs.Forms.{form_of_choice};

@@ -103,7 +103,7 @@ module _ (t : Term) (ks acs es ss us : List ℕ) (S : Sheet t ks acs es ss us) w
       rows = rows;
       keys = λ i h. rw (N.keys.1 i (omega (arith, N.keys.0))) (N.faithful.keys (get_or ks i 0) (get_or_in ks i (omega (arith, N.keys.0)))).1;
       keys_below = N.keys_below;
-      ups_below = N.ups-below;
+      ups_below = N.ups_below;
       some = N.some;
       few = omega (arith, N.few, S.few);
     }

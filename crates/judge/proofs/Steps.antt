@@ -27,8 +27,8 @@ module _ (ks acs es ss us first₀ second₀ : List ℕ) (c q : ℕ) (w : Slotte
     ends = l.square.ends;
     scopes = l.square.scopes;
     alike = R.alike;
-    first_zero = R.first-zero;
-    second_zero = R.second-zero;
+    first_zero = R.first_zero;
+    second_zero = R.second_zero;
   }
 
   module _ (first second : List ℕ) (n : length first ≡ length first₀) (r : ℕ) (P : Pairing ks acs es ss first second r) where

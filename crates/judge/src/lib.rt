@@ -1,5 +1,7 @@
 // The verdict of a record of which the conditions 1 and 2 hold, over its columns: 0, or 3 to 7.
 // Helpers between crates, with what each asks of its caller.
+#![tactic(auto)]
+
 ghost use Rattle.std.specs.Prelude.{length};
 ghost use Rattle.judge.specs.Judge.{Fair, Judged, Spread, Settled, Slotted, Decided, Room};
 

@@ -1,4 +1,6 @@
 // Operations on the keys of a record (01, Operations and their refusals): how many different ones, the least free one, the blank form.
+#![tactic(auto)]
+
 ghost use Rattle.std.specs.Prelude.{◌≡◌, [], ◌+◌, ◌<◌, length, get_or};
 ghost use Rattle.ccsk.specs.Numbers.{distinct};
 ghost use Rattle.format.specs.Flat.{key_at};
@@ -53,7 +55,7 @@ pub fn mark_all(column: &[u16], marks: &mut [u8; BYTES]) -> usize
 }
 
 // How many keys more the set has after a node, and where the next node begins.
-#[derive(Drop)]
+#[derive(Clone, Copy)]
 struct Step {
     more: usize,
     next: usize,

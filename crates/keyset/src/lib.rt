@@ -1,4 +1,6 @@
 // A set of keys in a lent array: one bit a key. Helpers between crates; each asks that the array is whole.
+#![tactic(auto)]
+
 ghost use Rattle.std.specs.Prelude.{◌≡◌, List, ℕ, ◌+◌, ◌*◌, ◌<◌, ◌≤◌, eqb, length};
 ghost use Rattle.keyset.specs.Set.{bit, power, member, Added, Missing, LeastMissing, members_below, Listed, Fronted};
 

@@ -1,5 +1,7 @@
 // The labels of the undos of a record, for all keys of a row in one pass over the record. Helpers between crates, with what each asks of
 // its caller.
+#![tactic(auto)]
+
 ghost use Rattle.std.specs.Prelude.{◌≡◌, ◌+◌, ◌<◌, ◌≤◌, length, get_or};
 ghost use Rattle.format.specs.Limits.{node_limit};
 ghost use Rattle.keys.specs.Gather.{Readable};

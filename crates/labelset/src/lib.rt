@@ -1,11 +1,13 @@
 // A set of labels: one bit for each of the 256, in four words. Each contract says which labels are in the result.
+#![tactic(auto)]
+
 ghost use Rattle.std.specs.Prelude.{◌≡◌, ◌⊎◌, cond, ℕ, ◌<◌};
 ghost use Rattle.ccsk.specs.Term.{Co, On, Channel};
 ghost use Rattle.shared.specs.Tells.{Tells};
 ghost use Rattle.labelset.specs.Set.{Shows, Exactly, even};
 
 // Label l is bit l % 64 of word l / 64: names stand in a and b, their co-names at the same bits of c and d.
-#[derive(Drop)]
+#[derive(Clone, Copy)]
 pub struct Labels {
     pub a: u64,
     pub b: u64,

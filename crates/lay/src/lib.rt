@@ -1,5 +1,7 @@
 // Lays a record out in columns, a row for each prefix that holds a key, in preorder.
 // Helpers between crates, with what each asks of its caller.
+#![tactic(auto)]
+
 ghost use Rattle.std.specs.Prelude.{◌≡◌, ◌+◌, ◌<◌, ◌%◌, length, get_or, set};
 ghost use Rattle.format.specs.Limits.{node_limit};
 ghost use Rattle.keys.specs.Gather.{Readable};
@@ -11,7 +13,7 @@ use reader::{NIL, NODES, PREFIX, RESTRICTION, body_length};
 use shared::{NAMES, Name, slot, slot_of, wide_byte};
 
 // The place of a term: where it begins, the number of its root, and the row of its first key.
-#[derive(Drop)]
+#[derive(Clone, Copy)]
 pub struct Place {
     pub at: usize,
     pub node: usize,

@@ -145,7 +145,7 @@ module _ (n k w : ℕ) (tree₀ tree : List ℕ) (at v : ℕ) (R : Rising n k w 
     size = length-set tree (at / 2) u ∙ R.size;
     leaves = leaves_set n tree (at / 2) u (omega (arith, R.low)) R.leaves;
     low = omega (arith, R.low);
-    some_leaf = R.some-leaf;
+    some_leaf = R.some_leaf;
     some = omega arith;
     here = get_or-set_same tree (at / 2) u 0 up_inside;
     inner = λ i g m q. pick i g m q (ℕ_discrete i (at / 2));
@@ -162,7 +162,7 @@ pub placed : (n k w : ℕ) (tree₀ tree : List ℕ) (at v : ℕ) → Rising n k
 placed n k w tree₀ tree at v R h = record { whole = record { leaves = R.leaves; inner = λ i g m. R.inner i g m (λ e. omega arith) }; here = R.put; kept = λ j g q. R.kept j g q ∙ get_or-set_other tree₀ (n + k) (n + j) w 0 (λ e. q (omega arith)); outside = R.zero ∙ get_or-set_other tree₀ (n + k) 0 w 0 (λ e. omega (arith, some)) }
   where
     some : 0 < n + k
-    some = R.some-leaf
+    some = R.some_leaf
 
 pub same_size : (n k w : ℕ) (tree₀ tree : List ℕ) (at v : ℕ) → Rising n k w (set tree₀ (n + k) w) tree at v → length tree ≡ length tree₀
 same_size n k w tree₀ tree at v R = R.size ∙ length-set tree₀ (n + k) w

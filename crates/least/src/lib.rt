@@ -1,6 +1,8 @@
 // The least of some numbers below n, which come and go: a tree with a leaf for each number, and above every two places the lesser of them.
 // One number waits outside, in place 0. Where numbers come that are less than all others, and go at once, the tree is not touched.
 // Helpers between crates, with what each asks of its caller.
+#![tactic(auto)]
+
 ghost use Rattle.std.specs.Prelude.{◌<◌};
 ghost use Rattle.least.specs.Tree.{Lesser, Leaves, Tree, Placed, Leaf};
 ghost use Rattle.least.specs.Board.{There, Board, Built, Put, Some, Took};

@@ -58,7 +58,7 @@ module _ (t : Term) (m : ℕ) (R : ℕ → ℕ → Type 0) (link : (k n : ℕ) �
 
   -- so the keys that are taken out go in turn, and then m
   turns : {out ws : List ℕ} {v : Term} → 0 < m → Has m t → Peels R S out ws → Rest t out v → ¬ In m out → (u : Term) × InTurn (Goes t m) (ws ++ (m ∷ [])) v u
-  turns {v = v} p h (Peels.end {out = out} all) r o = let n = own_next p h r o all in let d = n.allowed in (d.1, InTurn.then n d.2 (InTurn.all-gone (none d)))
+  turns {v = v} p h (Peels.end {out = out} all) r o = let n = own_next p h r o all in let d = n.allowed in (d.1, InTurn.then n d.2 (InTurn.all_gone (none d)))
     where
       none : (d : Undoable v m) → (k : ℕ) → Goes t m k → Fsh k d.1
       none d k (inl e) i = absent d.2 (rw e at i)

@@ -1,5 +1,7 @@
 // Takes a key back whose links are filed: the keys that they lead to are put in order, and the record is left without them.
 // Helpers between crates, with what each asks of its caller.
+#![tactic(auto)]
+
 ghost use Rattle.operations.specs.TakeBack.{TakeBack};
 ghost use Rattle.shared.specs.Number.{refusal, value};
 ghost use Rattle.filing.specs.Cabinet.{cabinet};

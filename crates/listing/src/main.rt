@@ -1,4 +1,6 @@
 // Lists a record (01, the listing program): its counts, each forward step in order, each allowed undo by ascending key.
+#![tactic(auto)]
+
 mod lines;
 mod out;
 

@@ -13,7 +13,7 @@ use Rattle.ccsk.proofs.Clear.{undo_clears}
 use Rattle.format.specs.Read.{Reads}
 use Rattle.format.specs.Encode.{encode}
 use Rattle.operations.specs.Order.{pair, ArePlaces}
-use Rattle.operations.specs.Change.{ForwardStep, UndoStep, no_places, key_stands, key_absent, ForwardStep.not-derived, UndoStep.not-derived, ForwardStep.done, UndoStep.done}
+use Rattle.operations.specs.Change.{ForwardStep, UndoStep, no_places, key_stands, key_absent, ForwardStep.not_derived, UndoStep.not_derived, ForwardStep.done, UndoStep.done}
 use Rattle.moves.specs.Choose.{forward_choice, undo_choice, spots}
 use Rattle.moves.specs.Move.{still, step, stuck, stands, move}
 use Rattle.moves.proofs.Holds.{stands_has, stands_fresh}

@@ -1,4 +1,6 @@
 // What one node of a record notes in lent arrays: its key, the scope of its name, and how many of the prefixes that can be last stay.
+#![tactic(auto)]
+
 ghost use Rattle.std.specs.Prelude.{◌≡◌, ◌+◌, ◌<◌, length, get_or};
 ghost use Rattle.format.specs.Limits.{node_limit};
 ghost use Rattle.noting.specs.Node.{rows, Enters, OverPrefix, noted_over_two, closed};
@@ -7,7 +9,7 @@ use reader::{CHOICE, NODES, PREFIX, RESTRICTION};
 use shared::{NAMES, Name, key_of, slot, slot_of};
 
 // What a node leaves behind before its first child is read: how many keys are noted, and the scope that its name had.
-#[derive(Drop)]
+#[derive(Clone, Copy)]
 pub struct Entered {
     pub keys: usize,
     pub scope: u16,

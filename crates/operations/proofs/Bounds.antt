@@ -77,17 +77,17 @@ undo_byte f d = forward_byte (fits_undo d f).range (forward_of_undo d)
 module _ (s : List ℕ) (B : Bytes s) where
   pub forward_small : {p q m c l : ℕ} {b : List ℕ} → ForwardStep s p q m c l b → SmallStep c l
   forward_small (ForwardStep.unreadable e) = (refused_small s e, omega arith)
-  forward_small (ForwardStep.key-zero e z) = omega arith
-  forward_small (ForwardStep.no-places e h a) = omega arith
-  forward_small (ForwardStep.key-stands e h a k) = omega arith
-  forward_small (ForwardStep.not-derived e h a k n) = omega arith
+  forward_small (ForwardStep.key_zero e z) = omega arith
+  forward_small (ForwardStep.no_places e h a) = omega arith
+  forward_small (ForwardStep.key_stands e h a k) = omega arith
+  forward_small (ForwardStep.not_derived e h a k n) = omega arith
   forward_small (ForwardStep.done e w) = (omega arith, forward_byte (read_fits s B e).range w.2)
 
   pub undo_small : {m c l : ℕ} {b : List ℕ} → UndoStep s m c l b → SmallStep c l
   undo_small (UndoStep.unreadable e) = (refused_small s e, omega arith)
-  undo_small (UndoStep.key-zero e z) = omega arith
-  undo_small (UndoStep.key-absent e h k) = omega arith
-  undo_small (UndoStep.not-derived e h k n) = omega arith
+  undo_small (UndoStep.key_zero e z) = omega arith
+  undo_small (UndoStep.key_absent e h k) = omega arith
+  undo_small (UndoStep.not_derived e h k n) = omega arith
   undo_small (UndoStep.done e d) = (omega arith, undo_byte (read_fits s B e) d)
 
   pub read_small : {c n : ℕ} → ReadRecord s c n → SmallNumber c n
@@ -117,8 +117,8 @@ module _ (s : List ℕ) (B : Bytes s) where
 
   pub waiting_small : {m c n : ℕ} {row b : List ℕ} → WaitingList s m row c n b → SmallNumber c n
   waiting_small (WaitingList.unreadable e) = (refused_small s e, omega arith)
-  waiting_small (WaitingList.key-zero e z) = omega arith
-  waiting_small (WaitingList.key-absent e h k) = omega arith
+  waiting_small (WaitingList.key_zero e z) = omega arith
+  waiting_small (WaitingList.key_absent e h k) = omega arith
   waiting_small {m} (WaitingList.done {t} {l} e h i o f) = filled_small (listed_few _ t l (read_fits s B e) o (waits_key t m)) f
 
   pub first_small : {p q c n p' q' l : ℕ} → FirstStep s p q c n p' q' l → SmallFirst c n p' q' l
@@ -130,8 +130,8 @@ module _ (s : List ℕ) (B : Bytes s) where
 
   pub take_small : {m c n : ℕ} {row b row' : List ℕ} → TakeBack s m row c n b row' → SmallNumber c n
   take_small (TakeBack.unreadable e) = (refused_small s e, omega arith)
-  take_small (TakeBack.key-zero e z) = omega arith
+  take_small (TakeBack.key_zero e z) = omega arith
   take_small (TakeBack.not_sound e h v z) = omega arith
-  take_small (TakeBack.key-absent e h v k) = omega arith
+  take_small (TakeBack.key_absent e h v k) = omega arith
   take_small (TakeBack.short l e h v k o g) = omega arith
   take_small (TakeBack.done {t} e h v k i g) = omega (arith, turn_few i, distinct_few t (read_fits s B e))

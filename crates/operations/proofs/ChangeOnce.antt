@@ -39,13 +39,13 @@ made_no : {t : Term} {m : Key} {x : List Node} (s : List ℕ) (d : Dec (ForwardA
 made_no s (yes v) f = absurd (f v)
 made_no s (no v) f = refl
 
-pub forward_only : {s b : List ℕ} {p q : Node} {m : Key} {r : ℕ} {l : Label} → ForwardStep s p q m r l b → forward_answer s p q m ≡ (r, l, b)
+pub forward_only : {s : List ℕ} {p q : Node} {m : Key} {r : ℕ} {l : Label} {b : List ℕ} → ForwardStep s p q m r l b → forward_answer s p q m ≡ (r, l, b)
 unfolding forward_answer forward_of
 forward_only (ForwardStep.unreadable e) = rw e
-forward_only {m = m} (ForwardStep.key-zero e z) = rw (e, choose_yes (ℕ_discrete m 0) _ _ z)
-forward_only {p = p} {q = q} {m = m} (ForwardStep.no-places {t = t} e h f) = rw (e, choose_no (ℕ_discrete m 0) _ _ (never h), choose_no (places? t p q) _ _ f)
-forward_only {p = p} {q = q} {m = m} (ForwardStep.key-stands {t = t} e h a i) = rw (e, choose_no (ℕ_discrete m 0) _ _ (never h), choose_yes (places? t p q) _ _ a, choose_yes (has? m t) _ _ i)
-forward_only {s} {p = p} {q = q} {m = m} (ForwardStep.not-derived {t = t} e h a i f) =
+forward_only {m = m} (ForwardStep.key_zero e z) = rw (e, choose_yes (ℕ_discrete m 0) _ _ z)
+forward_only {p = p} {q = q} {m = m} (ForwardStep.no_places {t = t} e h f) = rw (e, choose_no (ℕ_discrete m 0) _ _ (never h), choose_no (places? t p q) _ _ f)
+forward_only {p = p} {q = q} {m = m} (ForwardStep.key_stands {t = t} e h a i) = rw (e, choose_no (ℕ_discrete m 0) _ _ (never h), choose_yes (places? t p q) _ _ a, choose_yes (has? m t) _ _ i)
+forward_only {s} {p = p} {q = q} {m = m} (ForwardStep.not_derived {t = t} e h a i f) =
     rw (e, choose_no (ℕ_discrete m 0) _ _ (never h), choose_yes (places? t p q) _ _ a, choose_no (has? m t) _ _ i) (made_no s (forward? t m (pair p q)) f)
 forward_only {s} {p = p} {q = q} {m = m} (ForwardStep.done {t = t} e w) =
     rw (e, choose_no (ℕ_discrete m 0) _ _ (never (key_pos (undo_of_forward w.2))), choose_yes (places? t p q) _ _ (forward_places t m p q w), choose_no (has? m t) _ _ (absent (undo_of_forward w.2)))
@@ -57,10 +57,10 @@ forward_some s p q m = read (decode s) refl
   where
     tests : (t : Term) → Reads s t → (a : Dec (m ≡ 0)) (b : Dec (ArePlaces t p q)) (c : Dec (Has m t)) (d : Dec (ForwardAt t m (pair p q)))
         → Fit (ForwardStep s p q m) (choose a (3, 0, s) (choose b (choose c (5, 0, s) (made s d)) (4, 0, s)))
-    tests t e (yes z) b c d = ForwardStep.key-zero e z
-    tests t e (no z) (no b) c d = ForwardStep.no-places e (positive m z) b
-    tests t e (no z) (yes b) (yes c) d = ForwardStep.key-stands e (positive m z) b c
-    tests t e (no z) (yes b) (no c) (no d) = ForwardStep.not-derived e (positive m z) b c d
+    tests t e (yes z) b c d = ForwardStep.key_zero e z
+    tests t e (no z) (no b) c d = ForwardStep.no_places e (positive m z) b
+    tests t e (no z) (yes b) (yes c) d = ForwardStep.key_stands e (positive m z) b c
+    tests t e (no z) (yes b) (no c) (no d) = ForwardStep.not_derived e (positive m z) b c d
     tests t e (no z) (yes b) (no c) (yes w) = ForwardStep.done e w
 
     read : (o : Opened) → decode s ≡ o → Fit (ForwardStep s p q m) (on_read o (λ c. (c, 0, s)) (forward_of s p q m))
@@ -93,9 +93,9 @@ undone_no s (no v) f = refl
 pub undo_only : {s b : List ℕ} {m : Key} {r : ℕ} {l : Label} → UndoStep s m r l b → undo_answer s m ≡ (r, l, b)
 unfolding undo_answer undo_of
 undo_only (UndoStep.unreadable e) = rw e
-undo_only {m = m} (UndoStep.key-zero e z) = rw (e, choose_yes (ℕ_discrete m 0) _ _ z)
-undo_only {m = m} (UndoStep.key-absent {t = t} e h f) = rw (e, choose_no (ℕ_discrete m 0) _ _ (never h), choose_no (has? m t) _ _ f)
-undo_only {s} {m = m} (UndoStep.not-derived {t = t} e h i f) = rw (e, choose_no (ℕ_discrete m 0) _ _ (never h), choose_yes (has? m t) _ _ i) (undone_no s (undo? t m) f)
+undo_only {m = m} (UndoStep.key_zero e z) = rw (e, choose_yes (ℕ_discrete m 0) _ _ z)
+undo_only {m = m} (UndoStep.key_absent {t = t} e h f) = rw (e, choose_no (ℕ_discrete m 0) _ _ (never h), choose_no (has? m t) _ _ f)
+undo_only {s} {m = m} (UndoStep.not_derived {t = t} e h i f) = rw (e, choose_no (ℕ_discrete m 0) _ _ (never h), choose_yes (has? m t) _ _ i) (undone_no s (undo? t m) f)
 undo_only {s} {m = m} (UndoStep.done {t = t} e d) = rw (e, choose_no (ℕ_discrete m 0) _ _ (never (key_pos d)), choose_yes (has? m t) _ _ (present d)) (undone_once s (undo? t m) d)
 
 pub undo_step_some : (s : List ℕ) (m : Key) → Fit (UndoStep s m) (undo_answer s m)
@@ -103,9 +103,9 @@ unfolding undo_answer undo_of
 undo_step_some s m = read (decode s) refl
   where
     tests : (t : Term) → Reads s t → (a : Dec (m ≡ 0)) (b : Dec (Has m t)) (c : Dec (Undoable t m)) → Fit (UndoStep s m) (choose a (3, 0, s) (choose b (undone s c) (7, 0, s)))
-    tests t e (yes z) b c = UndoStep.key-zero e z
-    tests t e (no z) (no b) c = UndoStep.key-absent e (positive m z) b
-    tests t e (no z) (yes b) (no c) = UndoStep.not-derived e (positive m z) b c
+    tests t e (yes z) b c = UndoStep.key_zero e z
+    tests t e (no z) (no b) c = UndoStep.key_absent e (positive m z) b
+    tests t e (no z) (yes b) (no c) = UndoStep.not_derived e (positive m z) b c
     tests t e (no z) (yes b) (yes w) = UndoStep.done e w.2
 
     read : (o : Opened) → decode s ≡ o → Fit (UndoStep s m) (on_read o (λ c. (c, 0, s)) (undo_of s m))

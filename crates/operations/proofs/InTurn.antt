@@ -20,18 +20,18 @@ use Rattle.operations.proofs.Lists.{above, pass, lists_some}
 
 -- undos in turn are a run of undos
 pub turn_undos : {goes : Key → Type 0} {ks : List Key} {t u : Term} → InTurn goes ks t u → Undos ks t u
-turn_undos (InTurn.all-gone f) = Undos.stay
+turn_undos (InTurn.all_gone f) = Undos.stay
 turn_undos (InTurn.then n d r) = Undos.then d (turn_undos r)
 
 -- only keys that go are undone
 pub turn_goes : {goes : Key → Type 0} {ks : List Key} {t u : Term} (k : Key) → InTurn goes ks t u → In k ks → goes k
-turn_goes k (InTurn.all-gone f) i = absurd i
+turn_goes k (InTurn.all_gone f) i = absurd i
 turn_goes k (InTurn.then n d r) (inl e) = rw e n.still
 turn_goes k (InTurn.then n d r) (inr i) = turn_goes k r i
 
 -- afterwards none that goes is left
 pub turn_ends : {goes : Key → Type 0} {ks : List Key} {t u : Term} (k : Key) → InTurn goes ks t u → goes k → Fsh k u
-turn_ends k (InTurn.all-gone f) g = f k g
+turn_ends k (InTurn.all_gone f) g = f k g
 turn_ends k (InTurn.then n d r) g = turn_ends k r g
 
 -- every key that goes and stands there is undone
@@ -88,7 +88,7 @@ module _ (goes : Key → Type 0) (goes? : (k : Key) → Dec (goes k)) where
   -- whatever is undone in turn is the run computed
   pub turn_only : (f : ℕ) {ks : List Key} {t u : Term} → InTurn goes ks t u → length ks ≤ f → turn f t ≡ (ks, u)
   unfolding turn
-  turn_only zero (InTurn.all-gone g) h = refl
+  turn_only zero (InTurn.all_gone g) h = refl
   turn_only zero (InTurn.then n d r) h = absurd (omega arith)
-  turn_only (suc f) (InTurn.all-gone {t = t} g) h = rw (none_ready t g)
+  turn_only (suc f) (InTurn.all_gone {t = t} g) h = rw (none_ready t g)
   turn_only (suc f) (InTurn.then {t = t} {k = k} n d r) h = rw ((first_ready t k n).1, undo_clears d, turn_only f r (omega arith))

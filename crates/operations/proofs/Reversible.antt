@@ -32,7 +32,7 @@ pub record Stepped (s : List ℕ) (x : List Node) (m : Key) (l : Label) (b : Lis
   pub at : places step ≡ x
   pub bytes : encode later ≡ b
 
-pub forward_done : {s b : List ℕ} {p q : Node} {m : Key} {l : Label} → ForwardStep s p q m 0 l b → Stepped s (pair p q) m l b
+pub forward_done : {s : List ℕ} {p q : Node} {m : Key} {l : Label} {b : List ℕ} → ForwardStep s p q m 0 l b → Stepped s (pair p q) m l b
 forward_done {s} (ForwardStep.unreadable e) = not_refused_zero s e
 forward_done (ForwardStep.done {t = t} e w) = record { before = t; later = w.1; reads = e; step = w.2; at = w.3; bytes = refl }
 

@@ -97,8 +97,8 @@ waiting_answer s m row = on_read (decode s) (λ c. (c, 0, row)) (waiting_of m ro
 pub waiting_only : {s row row' : List ℕ} {m : Key} {r n : ℕ} → WaitingList s m row r n row' → waiting_answer s m row ≡ (r, n, row')
 unfolding waiting_answer waiting_of
 waiting_only (WaitingList.unreadable e) = rw e
-waiting_only {m = m} (WaitingList.key-zero e z) = rw (e, choose_yes (ℕ_discrete m 0) _ _ z)
-waiting_only {m = m} (WaitingList.key-absent {t = t} e h f) = rw (e, choose_no (ℕ_discrete m 0) _ _ (never h), choose_no (has? m t) _ _ f)
+waiting_only {m = m} (WaitingList.key_zero e z) = rw (e, choose_yes (ℕ_discrete m 0) _ _ z)
+waiting_only {m = m} (WaitingList.key_absent {t = t} e h f) = rw (e, choose_no (ℕ_discrete m 0) _ _ (never h), choose_no (has? m t) _ _ f)
 waiting_only {m = m} (WaitingList.done {t = t} {l = x} e h i l f) =
     rw (e, choose_no (ℕ_discrete m 0) _ _ (never h), choose_yes (has? m t) _ _ i, lists_once (WaitsFor t m) (awaited t m) x (awaited_listed t m) l) (fill_only f)
 
@@ -107,8 +107,8 @@ unfolding waiting_answer waiting_of
 waiting_some s m row = read (decode s) refl
   where
     tests : (t : Term) → Reads s t → (a : Dec (m ≡ 0)) (b : Dec (Has m t)) → Fit (WaitingList s m row) (choose a (3, 0, row) (choose b (fill (awaited t m) row) (7, 0, row)))
-    tests t e (yes z) b = WaitingList.key-zero e z
-    tests t e (no z) (no b) = WaitingList.key-absent e (positive m z) b
+    tests t e (yes z) b = WaitingList.key_zero e z
+    tests t e (no z) (no b) = WaitingList.key_absent e (positive m z) b
     tests t e (no z) (yes b) = WaitingList.done e (positive m z) b (awaited_listed t m) (fill_some (awaited t m) row)
 
     read : (o : Opened) → decode s ≡ o → Fit (WaitingList s m row) (on_read o (λ c. (c, 0, row)) (waiting_of m row))

@@ -76,9 +76,9 @@ take_answer s m row = on_read (decode s) (λ c. (c, 0, s, row)) (take_of s m row
 pub take_only : {s b row row' : List ℕ} {m : Key} {r n : ℕ} → TakeBack s m row r n b row' → take_answer s m row ≡ (r, n, b, row')
 unfolding take_answer take_of
 take_only (TakeBack.unreadable e) = rw e
-take_only {m = m} (TakeBack.key-zero e z) = rw (e, choose_yes (ℕ_discrete m 0) _ _ z)
+take_only {m = m} (TakeBack.key_zero e z) = rw (e, choose_yes (ℕ_discrete m 0) _ _ z)
 take_only {m = m} (TakeBack.not_sound {t = t} e p v h) = rw (e, choose_no (ℕ_discrete m 0) _ _ (never p), choose_no (ℕ_discrete (verdict t) 0) _ _ (λ z. omega (arith, verdict_once v)))
-take_only {m = m} (TakeBack.key-absent {t = t} e p v f) = rw (e, choose_no (ℕ_discrete m 0) _ _ (never p), choose_yes (ℕ_discrete (verdict t) 0) _ _ (verdict_once v), choose_no (has? m t) _ _ f)
+take_only {m = m} (TakeBack.key_absent {t = t} e p v f) = rw (e, choose_no (ℕ_discrete m 0) _ _ (never p), choose_yes (ℕ_discrete (verdict t) 0) _ _ (verdict_once v), choose_no (has? m t) _ _ f)
 take_only {row = row} {m = m} (TakeBack.short {t = t} l e p v i o h) =
     rw (e, choose_no (ℕ_discrete m 0) _ _ (never p), choose_yes (ℕ_discrete (verdict t) 0) _ _ (verdict_once v), choose_yes (has? m t) _ _ i)
     (choose_no (dec_le (length (goers t m)) (length row)) _ _ (λ g. omega (arith, ap length (lists_once (Goes t m) (goers t m) l (goers_listed t m p i) o))))

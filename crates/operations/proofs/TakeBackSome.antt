@@ -67,7 +67,7 @@ module _ (goes : Key → Type 0) (goes? : (k : Key) → Dec (goes k)) (pos : (k 
       some k n = omega (arith, distinct_undo n.allowed.2)
 
       pick : (l : List Key) → ready goes goes? t ≡ l → InTurn goes [] t t
-      pick [] e = InTurn.all-gone (all_went t s c e)
+      pick [] e = InTurn.all_gone (all_went t s c e)
       pick (k ∷ l) e = absurd (some k (next_ready t k l (rw e at (ready_listed goes goes? t))))
   turn_some (suc f) t h s c = pick (ready goes goes? t) refl (turn_some f)
     where
@@ -76,7 +76,7 @@ module _ (goes : Key → Type 0) (goes? : (k : Key) → Dec (goes k)) (pos : (k 
           rw (undo_clears d) (InTurn.then n d (i n.allowed.1 (omega (arith, distinct_undo d)) (sound_undo d s) (λ k j g w. c k j g (chain_undo d w))))
 
       pick : (l : List Key) → ready goes goes? t ≡ l → ((t : Term) → distinct (keys t) ≤ f → Sound t → Closed t → InTurn goes (turn goes goes? f t).0 t (turn goes goes? f t).1) → InTurn goes (onward t (turn goes goes? f) l).0 t (onward t (turn goes goes? f) l).1
-      pick [] e i = InTurn.all-gone (all_went t s c e)
+      pick [] e i = InTurn.all_gone (all_went t s c e)
       pick (k ∷ l) e i = some k (next_ready t k l (rw e at (ready_listed goes goes? t))) i
 
 -- verdict 0 is sound
@@ -109,9 +109,9 @@ take_some s m row = read (decode s) refl
   where
     tests : (t : Term) → Reads s t → (a : Dec (m ≡ 0)) (b : Dec (verdict t ≡ 0)) (c : Dec (Has m t)) (d : Dec (length (goers t m) ≤ length row))
         → FitTaking s m row (choose a (3, 0, s, row) (choose b (choose c (choose d (taken_in row (turn (Goes t m) (goes? t m) (distinct (keys t)) t)) (9, 0, s, row)) (7, 0, s, row)) (13, 0, s, row)))
-    tests t e (yes z) b c d = TakeBack.key-zero e z
+    tests t e (yes z) b c d = TakeBack.key_zero e z
     tests t e (no z) (no b) c d = TakeBack.not_sound e (positive m z) (verdict_right t) (positive (verdict t) b)
-    tests t e (no z) (yes b) (no c) d = TakeBack.key-absent e (positive m z) (rw b at (verdict_right t)) c
+    tests t e (no z) (yes b) (no c) d = TakeBack.key_absent e (positive m z) (rw b at (verdict_right t)) c
     tests t e (no z) (yes b) (yes c) (no d) = let p = positive m z in TakeBack.short (goers t m) e p (rw b at (verdict_right t)) c (goers_listed t m p c) (omega arith)
     tests t e (no z) (yes b) (yes c) (yes d) = let p = positive m z in let v : Verdict t 0 = rw b at (verdict_right t) in
         let r = turn_exists t m p c (verdict_sound v) in

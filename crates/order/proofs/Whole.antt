@@ -92,8 +92,8 @@ module _ (marks : List ℕ) (n links : ℕ) (us ls : List ℕ) (S : Sortable mar
       older = λ r i h u. last_same among (older r i h u.0 ((among (get_or us i 0)).1 u.1));
       named = λ r i h e. let w = number r h in named i (subst (Held marks) (sym e) w.0) ∙ ap (rank marks) e ∙ w.1;
       few = S.few;
-      long_ups = T.long-ups;
-      long_olds = T.long-olds;
+      long_ups = T.long_ups;
+      long_olds = T.long_olds;
       long_keys = a;
       long_heads = b;
       rows = omega (arith, S.upper);

@@ -1,5 +1,7 @@
 // The order in which keys go (02, [6]): each time the least from which no link leads to a key that is left.
 // Helpers between crates, with what each asks of its caller.
+#![tactic(auto)]
+
 ghost use Rattle.std.specs.Prelude.{◌≡◌, ◌+◌, ◌<◌, ◌≤◌, length, get_or};
 ghost use Rattle.least.specs.Board.{There, Board};
 ghost use Rattle.format.specs.Limits.{node_limit};

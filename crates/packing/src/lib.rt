@@ -1,4 +1,6 @@
 // Answers packed into one number each, for a host.
+#![tactic(auto)]
+
 ghost use Rattle.std.specs.Prelude.{get_or, take, drop, ◌≡◌};
 ghost use Rattle.cursor.specs.At.{showing};
 ghost use Rattle.shared.specs.Number as number;

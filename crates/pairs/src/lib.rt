@@ -1,5 +1,7 @@
 // The conditions 3 to 6 of 01 (Soundness) on columns of numbers, a row for each prefix that holds a key.
 // Helpers between crates, with what each asks of its caller.
+#![tactic(auto)]
+
 ghost use Rattle.std.specs.Prelude.{◌≡◌, ◌+◌, ◌<◌, length};
 ghost use Rattle.causes.specs.Columns.{Below};
 ghost use Rattle.pairs.specs.Cause.{Placed, EachPlaced, CauseAt, CauseBelow};

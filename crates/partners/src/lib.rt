@@ -1,4 +1,6 @@
 // The partners of a place: a way down to it, and on the way back what stands to the right of it at each parallel.
+#![tactic(auto)]
+
 ghost use Rattle.std.specs.Prelude.{◌≡◌, cond, ◌+◌, ◌<◌, ◌≤◌, length, get_or};
 ghost use Rattle.format.specs.Limits.{node_limit};
 ghost use Rattle.ccsk.specs.Term.{Co};
@@ -16,14 +18,14 @@ use showing::list;
 use wanted::shows_none;
 
 // What a place meets: the label that it shows, no action where it shows none, and how many partners are listed.
-#[derive(Drop)]
+#[derive(Clone, Copy)]
 pub struct Met {
     pub label: u8,
     pub count: usize,
 }
 
 // Where a way stands: after so many turns, which are kept in a row, at a node, where its goal shows the label.
-#[derive(Drop)]
+#[derive(Clone, Copy)]
 pub struct Stand {
     pub turns: usize,
     pub node: usize,

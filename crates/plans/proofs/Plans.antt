@@ -12,7 +12,7 @@ use Rattle.format.specs.Read.{Reads, Refuses}
 use Rattle.format.specs.Encode.{encode, Bytes}
 use Rattle.format.proofs.Unique.{encode-decode}
 use Rattle.operations.specs.Order.{ArePlaces}
-use Rattle.operations.specs.Change.{ForwardStep, UndoStep, ForwardStep.key-zero, UndoStep.key-zero}
+use Rattle.operations.specs.Change.{ForwardStep, UndoStep, ForwardStep.key_zero, UndoStep.key_zero}
 use Rattle.moves.specs.Choose.{forward_choice, undo_choice, spots}
 use Rattle.moves.specs.Move.{step, stands, move}
 use Rattle.moves.proofs.Answers.{spot_inside, are_places_one, are_places_two, forward_4_one, forward_4_two, forward_4_order, forward_5, forward_moves, forward_6, forward_done_one, forward_done_two, undo_7, undo_moves, undo_8, undo_spots, undo_done_one, undo_done_two}

@@ -1,4 +1,6 @@
 // What a forward step or an undo is to do: planned on the bytes as they are.
+#![tactic(auto)]
+
 ghost use Rattle.std.specs.Prelude.{◌≡◌, length};
 ghost use Rattle.operations.specs.Change.{ForwardStep, UndoStep};
 ghost use Rattle.plans.specs.Plan.{planned, told, carried, Inside, settled};
@@ -8,7 +10,7 @@ use shared::{KEY_ABSENT, KEY_STANDS, KEY_ZERO, NO_PLACES, NO_STEP, NO_UNDO};
 use survey::pass::{Whole, survey_all};
 
 // What is to be done: refuse, or make a step with this label at one place or two, given by where the bytes of each begin.
-#[derive(Drop)]
+#[derive(Clone, Copy)]
 pub enum Plan {
     Refused(u8),
     One(u8, u16),

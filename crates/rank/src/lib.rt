@@ -1,4 +1,6 @@
 // Dense numbers for the keys of a set: a member's rank is how many members are below it. Helpers between crates; each asks that the arrays are whole.
+#![tactic(auto)]
+
 ghost use Rattle.std.specs.Prelude.{◌≡◌, true, ◌+◌, ◌*◌, ◌≤◌, ◌<◌, length};
 ghost use Rattle.keyset.specs.Set.{member};
 ghost use Rattle.rank.specs.Rank.{one_more, rank, Ranked};

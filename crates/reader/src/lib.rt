@@ -1,4 +1,6 @@
 // Reading a record (01, The record): one node at a place, the node that is due, and the whole record.
+#![tactic(auto)]
+
 ghost use Rattle.std.specs.Prelude.{◌<◌, ◌≤◌, ◌≡◌, ◌≢◌, length};
 ghost use Rattle.operations.specs.Ask.{ReadRecord};
 ghost use Rattle.reader.specs.Head.{body, count_of_children, KindAt, Headed};
@@ -34,7 +36,7 @@ pub const BODY: [usize; KINDS] = [0, 3, 0, 0, 1];
 const CHILDREN: [usize; KINDS] = [0, 1, 2, 2, 1];
 
 // What stands at a place: a refusal, or a node with so many children, whose body ends at `next`.
-#[derive(Drop)]
+#[derive(Clone, Copy)]
 pub enum Head {
     Refused(u8),
     Node {

@@ -1,4 +1,6 @@
 // Lent rows of keys (01, Operations and their refusals): a set of keys goes to the front of a row, ascending.
+#![tactic(auto)]
+
 ghost use Rattle.std.specs.Prelude.{◌≡◌, length};
 ghost use Rattle.operations.specs.Ask.{Filled};
 ghost use Rattle.keyset.specs.Set.{members_below};

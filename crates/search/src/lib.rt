@@ -1,4 +1,6 @@
 // The first forward step at or after two places (01, Operations): a search over the wanted places of a record.
+#![tactic(auto)]
+
 ghost use Rattle.std.specs.Prelude.{◌≡◌, ◌≢◌};
 ghost use Rattle.operations.specs.Ask.{FirstStep};
 ghost use Rattle.shared.specs.Tells.{Tells};
@@ -12,7 +14,7 @@ use shared::{NO_ACTION, Node, Number, TAU, wide};
 use wanted::{WANTED, WORDS, mark};
 
 // The answer: a refusal, none, or the places and the label of the first step.
-#[derive(Drop)]
+#[derive(Clone, Copy)]
 pub enum First {
     Refused(u8),
     None,

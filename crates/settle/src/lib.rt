@@ -1,4 +1,6 @@
 // The keys that were noted, settled one by one at their ranks: how often each stands, and whether its lasts are ready.
+#![tactic(auto)]
+
 ghost use Rattle.std.specs.Prelude.{◌≡◌, List, [], ◌∷◌, ◌++◌, ℕ, ◌≤◌, ◌<◌, length, get_or, take};
 ghost use Rattle.format.specs.Limits.{node_limit};
 ghost use Rattle.shared.specs.Tells.{Tells};
@@ -26,7 +28,7 @@ pub const HALF: u8 = 4;
 pub const READY: u8 = 5;
 
 // A state with its slot.
-#[derive(Drop)]
+#[derive(Clone, Copy)]
 pub struct Met {
     pub state: u8,
     pub slot: u16,

@@ -1,22 +1,24 @@
 // What several crates share: keys, node numbers and names, the numbers of labels and refusals, the answer that is a number, numbers as
 // indices, and tests that combine.
+#![tactic(auto)]
+
 ghost use Rattle.std.specs.Prelude.{◌≡◌, ◌&&◌, ◌||◌, ◌<◌, ◌%◌};
 ghost use Rattle.ccsk.specs.Term.{Co, On};
 ghost use Rattle.format.specs.Read.{key_of};
 ghost use Rattle.shared.specs.Tells.{Tells};
 
 // A key, a node number and a name are three things, so that none is read as another.
-#[derive(Drop)]
+#[derive(Clone, Copy)]
 pub struct Key(pub u16);
 
-#[derive(Drop)]
+#[derive(Clone, Copy)]
 pub struct Node(pub u16);
 
-#[derive(Drop)]
+#[derive(Clone, Copy)]
 pub struct Name(pub u8);
 
 // An answer that is a number: the refusal, or the number of nodes, of keys, of places written, or whatever was asked for.
-#[derive(Drop)]
+#[derive(Clone, Copy)]
 pub enum Number {
     Refused(u8),
     Is(usize),

@@ -1,4 +1,6 @@
 // The places of a part that show one of some labels, listed in rising order.
+#![tactic(auto)]
+
 ghost use Rattle.std.specs.Prelude.{◌≡◌, ◌+◌, ◌≤◌, ◌<◌, length};
 ghost use Rattle.format.specs.Limits.{node_limit};
 ghost use Rattle.labelset.specs.Set.{Shows};

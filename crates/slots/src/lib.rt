@@ -1,5 +1,7 @@
 // Small numbers for the keys of columns: a key becomes one more than its rank among the keys, and 0 stays 0.
 // Helpers between crates, with what each asks of its caller.
+#![tactic(auto)]
+
 ghost use Rattle.std.specs.Prelude.{◌≡◌, ◌≢◌, true, ◌<◌, length};
 ghost use Rattle.keyset.specs.Set.{member};
 ghost use Rattle.rank.specs.Rank.{rank, Ranked};

@@ -1,4 +1,6 @@
 // Soundness of a record (01, Soundness): its verdict, 0 to 7.
+#![tactic(auto)]
+
 ghost use Rattle.shared.specs.Number.{refusal, value, Caused};
 ghost use Rattle.operations.specs.Ask.{Soundness};
 

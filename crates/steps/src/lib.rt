@@ -1,4 +1,6 @@
 // The two operations that change a record by a step: forward and undo. Each plans on the bytes as they are, and then writes; a refusal writes nothing.
+#![tactic(auto)]
+
 ghost use Rattle.std.specs.Prelude.{◌≡◌, ◌+◌, ◌<◌, ◌/◌, ◌%◌, length, set};
 ghost use Rattle.operations.specs.Change.{ForwardStep, UndoStep};
 ghost use Rattle.plans.specs.Plan.{planned, told, carried, Inside};
@@ -8,7 +10,7 @@ use plans::{Plan, plan_forward, plan_undo};
 use shared::{Key, NOT_DONE, Node, wide};
 
 // The answer of a step: a refusal number, or the label of the step that was made.
-#[derive(Drop)]
+#[derive(Clone, Copy)]
 pub enum Moved {
     Refused(u8),
     Done(u8),

@@ -10,14 +10,14 @@ use reader::{DEPTH, Head, NODES, PARALLEL, PREFIX, node_due};
 use shared::{NO_RECORD, Name, key_of, narrow, wide};
 
 // What a pass over the term at a place comes to: a refusal, or where the term ends, how many nodes may still come, and what was found.
-#[derive(Drop)]
+#[derive(Clone, Copy)]
 pub enum Outcome {
     Refused(u8),
     Part(u16, u16, Seen),
 }
 
 // What a pass over a whole record comes to: a refusal, or what was found.
-#[derive(Drop)]
+#[derive(Clone, Copy)]
 pub enum Whole {
     Refused(u8),
     Seen(Seen),

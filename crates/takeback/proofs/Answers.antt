@@ -28,7 +28,7 @@ module _ (s : List ℕ) (m : Key) (p : 0 < m) (J : Soundness s 0 0) (x : Cabinet
 
   pub key_absent : r ≡ Absent → (row : List ℕ) → TakeBack s m row 7 0 s row
   key_absent e row = let S : Stands s m false = subst (FilesAll s m x) e F in let w = sound_done J in
-      TakeBack.key-absent S.1.reads p (sound (subst Sound (reads_one s w.1 S.1.reads) w.2)) S.2
+      TakeBack.key_absent S.1.reads p (sound (subst Sound (reads_one s w.1 S.1.reads) w.2)) S.2
 
   pub key_stands : (n : ℕ) → r ≡ Standing n → Linked s m x n
   key_stands n e = let w : FilesAll s m x (Standing n) = subst (FilesAll s m x) e F in record { key = p; sound = J; stands = w.0; filed = w.1; up_to = w.2 }
@@ -52,7 +52,7 @@ module _ (s : List ℕ) (m : Key) (row : List ℕ) (r : Number) (J : Soundness s
     judged = subst (λ (y : Number). Soundness s (refusal y) (value y)) e J
 
     pub key_zero : m ≡ 0 → TakeBack s m row 3 0 s row
-    key_zero z = TakeBack.key-zero (verdict_done judged).1 z
+    key_zero z = TakeBack.key_zero (verdict_done judged).1 z
 
     pub not_sound : m ≢ 0 → v ≢ 0 → TakeBack s m row 13 0 s row
     not_sound f g = let w = verdict_done judged in TakeBack.not_sound w.1 (omega arith) w.2 (omega arith)

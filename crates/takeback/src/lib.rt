@@ -1,4 +1,6 @@
 // Takes a key back with everything that stands on it (02, [6]): each time the least key still to go whose undo is allowed.
+#![tactic(auto)]
+
 ghost use Rattle.std.specs.Prelude.{◌<◌};
 ghost use Rattle.operations.specs.Ask.{Soundness};
 ghost use Rattle.operations.specs.TakeBack.{TakeBack};

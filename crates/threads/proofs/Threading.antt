@@ -75,12 +75,12 @@ module _ (marks : List ℕ) (n links : ℕ) (us ls : List ℕ) (S : Sortable mar
 
   pub threaded_none : (base os hs cs : List ℕ) → Ready marks base us os hs cs → Threaded marks us ls 1 us os hs cs
   threaded_none base os hs cs R = record {
-    head = λ k h. record { there = inl (R.no-head (rank marks k)); before = omega (arith, R.no-head (rank marks k)); none = λ i a b. absurd (omega (arith, R.no-head (rank marks k))) };
+    head = λ k h. record { there = inl (R.no_head (rank marks k)); before = omega (arith, R.no_head (rank marks k)); none = λ i a b. absurd (omega (arith, R.no_head (rank marks k))) };
     older = λ k i h g e f. absurd (first i g f);
     named = λ i g f. absurd (first i g f);
     rest = λ i g. refl;
-    counted = λ k h. R.no-count (rank marks k) ∙ sym (owing_no us ls k [] 0 (λ e. absurd (omega (arith, positive k h, e, S.root))) ∙ owing_none us ls k []);
-    small = λ r. omega (arith, R.no-count r);
+    counted = λ k h. R.no_count (rank marks k) ∙ sym (owing_no us ls k [] 0 (λ e. absurd (omega (arith, positive k h, e, S.root))) ∙ owing_none us ls k []);
+    small = λ r. omega (arith, R.no_count r);
     long_ups = refl;
     long_olds = R.older;
   }
@@ -99,9 +99,9 @@ module _ (marks : List ℕ) (n links : ℕ) (us ls : List ℕ) (S : Sortable mar
     threadable base B g h c = record {
       whole = S.whole;
       ranked = B;
-      upper = omega (arith, T.long-ups, S.upper, S.last);
+      upper = omega (arith, T.long_ups, S.upper, S.last);
       lower = omega (arith, S.lower, S.last);
-      older = omega (arith, T.long-olds, S.upper, S.last);
+      older = omega (arith, T.long_olds, S.upper, S.last);
       heads = h;
       counters = c;
       few = omega (arith, S.count, S.few);
@@ -134,8 +134,8 @@ module _ (marks : List ℕ) (n links : ℕ) (us ls : List ℕ) (S : Sortable mar
         rest = λ j g. T.rest j (omega arith);
         counted = λ k h. T.counted k h ∙ sym (owing_no us ls k [] i (λ e. absurd (not_both (get_or us i 0) (subst (Held marks) e h) f)));
         small = λ r. omega (arith, T.small r);
-        long_ups = T.long-ups;
-        long_olds = T.long-olds;
+        long_ups = T.long_ups;
+        long_olds = T.long_olds;
       }
 
     -- a row from a key of the set
@@ -169,13 +169,13 @@ module _ (marks : List ℕ) (n links : ℕ) (us ls : List ℕ) (S : Sortable mar
           pick : Dec (j ≡ i) → Last (Held marks) us ls k j (get_or (set os i (get_or hs l 0)) j 0)
           pick (no z) = rw (get_or-set_other os i j (get_or hs l 0) 0 z) (T.older k j g (omega arith) q w)
           pick (yes z) = let y : rank marks k ≡ l = ap (rank marks) (sym q ∙ ap (λ (x : ℕ). get_or ls x 0) z) ∙ sym d in
-              rw (z, get_or-set_same os i (get_or hs l 0) 0 (omega (arith, T.long-olds)), ← y) (T.head k g)
+              rw (z, get_or-set_same os i (get_or hs l 0) 0 (omega (arith, T.long_olds)), ← y) (T.head k g)
 
       named_on : (j : ℕ) → j < suc i → Held marks (get_or us j 0) → get_or (set ups i u) j 0 ≡ rank marks (get_or us j 0)
       named_on j p w = pick (ℕ_discrete j i)
         where
           pick : Dec (j ≡ i) → get_or (set ups i u) j 0 ≡ rank marks (get_or us j 0)
-          pick (yes z) = rw (z, get_or-set_same ups i u 0 (omega (arith, T.long-ups))) e
+          pick (yes z) = rw (z, get_or-set_same ups i u 0 (omega (arith, T.long_ups))) e
           pick (no z) = get_or-set_other ups i j u 0 z ∙ T.named j (omega arith) w
 
       counted_on : (k : Key) → Held marks k → get_or (set cs u (get_or cs u 0 + 1)) (rank marks k) 0 ≡ owing us ls k [] (suc i)
@@ -201,8 +201,8 @@ module _ (marks : List ℕ) (n links : ℕ) (us ls : List ℕ) (S : Sortable mar
         rest = λ j g. get_or-set_other ups i j u 0 (λ z. omega arith) ∙ T.rest j (omega arith);
         counted = counted_on;
         small = small_on;
-        long_ups = length-set ups i u ∙ T.long-ups;
-        long_olds = length-set os i (get_or hs l 0) ∙ T.long-olds;
+        long_ups = length-set ups i u ∙ T.long_ups;
+        long_olds = length-set os i (get_or hs l 0) ∙ T.long_olds;
       }
 
     -- one row more
@@ -222,8 +222,8 @@ module _ (marks : List ℕ) (n links : ℕ) (us ls : List ℕ) (S : Sortable mar
     rest = λ j p. T.rest j (omega (arith, S.upper, S.last));
     counted = λ k h. T.counted k h ∙ sym (more k h);
     small = λ r. omega (arith, T.small r, S.upper, S.last);
-    long_ups = T.long-ups;
-    long_olds = T.long-olds;
+    long_ups = T.long_ups;
+    long_olds = T.long_olds;
   }
     where
       early : (j : ℕ) → Held marks (get_or us j 0) → j < i

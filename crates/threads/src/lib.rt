@@ -1,5 +1,7 @@
 // Rows of links threaded by their lower keys and counted for their upper keys, which become numbers.
 // Helpers between crates, with what each asks of its caller.
+#![tactic(auto)]
+
 ghost use Rattle.std.specs.Prelude.{length};
 ghost use Rattle.rank.specs.Rank.{rank};
 ghost use Rattle.threads.specs.Threads.{Sortable, Threadable, Threads, Ready, Threaded};

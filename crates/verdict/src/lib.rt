@@ -1,5 +1,7 @@
 // The conditions 3 to 7 of 01 (Soundness) on columns of rows, a row for each prefix that holds a key, under small names for the keys.
 // Helpers between crates, with what each asks of its caller.
+#![tactic(auto)]
+
 ghost use Rattle.std.specs.Prelude.{◌≡◌, ◌≤◌, length};
 ghost use Rattle.verdict.specs.Sheet.{Blank, Pairing, Noted, Ordering};
 

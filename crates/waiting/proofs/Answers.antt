@@ -30,7 +30,7 @@ module _ (s : List ℕ) (m : Key) (x : Cabinet) (r : Found) (F : FilesAll s m x 
   bytes_refused c e row = WaitingList.unreadable (subst (FilesAll s m x) e F)
 
   pub key_absent : r ≡ Absent → 0 < m → (row : List ℕ) → WaitingList s m row 7 0 row
-  key_absent e p row = let S : Stands s m false = subst (FilesAll s m x) e F in WaitingList.key-absent S.1.reads p S.2
+  key_absent e p row = let S : Stands s m false = subst (FilesAll s m x) e F in WaitingList.key_absent S.1.reads p S.2
 
   pub key_stands : (n : ℕ) → r ≡ Standing n → Stands s m true × AllFiled s x
   key_stands n e = let z : FilesAll s m x (Standing n) = subst (FilesAll s m x) e F in (z.0, z.1)

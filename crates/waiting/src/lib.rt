@@ -1,4 +1,6 @@
 // Waiting list of a key (02, [5]): which keys must be undone before it.
+#![tactic(auto)]
+
 ghost use Rattle.std.specs.Prelude.{List, ℕ, ◌<◌};
 ghost use Rattle.operations.specs.Ask.{WaitingList};
 ghost use Rattle.shared.specs.Number.{refusal, value};

@@ -1,4 +1,6 @@
 // Which places of a record are wanted: one pass over its rows, down the term and from right to left.
+#![tactic(auto)]
+
 ghost use Rattle.std.specs.Prelude.{◌≡◌, ◌⊎◌, true, ℕ, ◌+◌, ◌*◌, ◌<◌, ◌≤◌, length, get_or};
 ghost use Rattle.ccsk.specs.Term.{Co};
 ghost use Rattle.format.specs.Limits.{node_limit};

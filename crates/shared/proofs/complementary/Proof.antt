@@ -8,7 +8,7 @@ use Rattle.shared.proofs.complementary.Tie as tie
 returns : tie.Need-returns
 returns c = co_none _ _ c.if1.true
 
-add-result : tie.Need-overflow-add-result
+add-result : tie.Need-overflow_add-result
 add-result c = search rules
 
 returns-2 : tie.Need-returns-2

@@ -13,7 +13,7 @@ returns-2 c = search rules
 returns-3 : tie.Need-returns-3
 returns-3 c = on_name _ _ c.before.before.if1.false c.before.if2.false c.if3.true
 
-add-result : tie.Need-overflow-add-result
+add-result : tie.Need-overflow_add-result
 add-result c = search rules
 
 returns-4 : tie.Need-returns-4
