@@ -79,7 +79,7 @@ linked_over one two m n p = (to, back)
     back (h, l, i) = pick n refl
       where
         pick : (k : ℕ) → n ≡ k → Linked (lower one two) (upper one two) m n
-        pick zero e = absurd (⊎_elim (λ z. root (z ∙ ap (λ (x : ℕ). get_or one x 0) e ∙ p.root-one)) (λ z. root (z ∙ ap (λ (x : ℕ). get_or two x 0) e ∙ p.root-two)) i)
+        pick zero e = absurd (⊎_elim (λ z. root (z ∙ ap (λ (x : ℕ). get_or one x 0) e ∙ p.root_one)) (λ z. root (z ∙ ap (λ (x : ℕ). get_or two x 0) e ∙ p.root_two)) i)
           where
             root : m ≡ 0 → ⊥
             root z = omega arith

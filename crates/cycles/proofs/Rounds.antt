@@ -39,7 +39,7 @@ start one two c q t p w f = record { columns = p; queue = w; passed = omega arit
     first : (m : ℕ) → m < length one → get_or c m 0 ≡ pending m [] (lower one two) (upper one two) + times m (0 ∷ (0 ∷ []))
     first m h =
         let a = pending_first m (lower one two) (upper one two) (lower_upper one two) in let b = times-append m (drop 1 one) (drop 1 two) in
-        let x = times_root m one p.some p.root-one in let y = times_root m two (let s = p.some in let e = p.alike in omega arith) p.root-two in
+        let x = times_root m one p.some p.root_one in let y = times_root m two (let s = p.some in let e = p.alike in omega arith) p.root_two in
         let z = times-append m (0 ∷ []) (0 ∷ []) in let v = f m h in omega arith
 
 root_counts : (rest : List ℕ) → 2 ≤ times 0 (rest ++ 0 ∷ (0 ∷ []))

@@ -49,7 +49,7 @@ module _ (s : List ℕ) (at d c k l : ℕ) (b b' : Lent) (W : Type 0) (r : Outco
 
     -- there is room for the nodes that may still come
     pub room_left : k + c ≤ node_limit → l ≤ k → (k' + c' ≤ node_limit) × (l' ≤ k') × (k ≤ k')
-    room_left h i = let p = gathers_part in omega (arith, p.1.nodes, p.2.key-count, p.2.last-count, keys_few p.0, lasts_few (node_limit - c) b.scopes p.0)
+    room_left h i = let p = gathers_part in omega (arith, p.1.nodes, p.2.key_count, p.2.last_count, keys_few p.0, lasts_few (node_limit - c) b.scopes p.0)
 
 module _ (s : List ℕ) (at d c : ℕ) (kind children next : ℕ) (D : NodeDue s at d c kind children next) where
   ends : (n : ℕ) → kind ≡ n → next ≡ at + 1 + body n

@@ -8,7 +8,7 @@ use lib.Seq.{drop-cons}
 use Rattle.ccsk.specs.Term.{Term, pre, cho, par, res, size}
 use Rattle.format.specs.Kinds.{length_of_body}
 use Rattle.format.specs.Limits.{node_limit, depth_limit}
-use Rattle.format.specs.Read.{Reading, Reading.refused, term, kind_of, key_of, onward, read, finish, decode, Refuses}
+use Rattle.format.specs.Read.{Reading, term, kind_of, key_of, onward, read, finish, decode, Refuses}
 use Rattle.format.specs.Encode.{Bytes}
 use Rattle.format.proofs.Unique.{read_written}
 use Rattle.operations.specs.Ask.{ReadRecord, done}

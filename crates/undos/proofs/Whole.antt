@@ -112,7 +112,7 @@ module _ (s : List ℕ) (bytes : Bytes s) (b b' : Lent) (W : Type 0) (r : Outcom
     listing_trailing h = refused-row (refuses_trailing s part.0 next c part.1 h)
 
     pub counts_within : (k ≤ node_limit) × (l ≤ node_limit)
-    counts_within = let p = part in omega (arith, p.1.nodes, p.2.key-count, p.2.last-count, keys_few p.0, lasts_few 0 b.scopes p.0)
+    counts_within = let p = part in omega (arith, p.1.nodes, p.2.key_count, p.2.last_count, keys_few p.0, lasts_few 0 b.scopes p.0)
 
     module _ (open_at : b.scopes ≡ open_scopes) (h : length s ≤ next) where
       t : Term
@@ -127,11 +127,11 @@ module _ (s : List ℕ) (bytes : Bytes s) (b b' : Lent) (W : Type 0) (r : Outcom
 
       all_keys : take k b'.all ≡ keys t
       unfolding t
-      all_keys = part.2.noted-keys
+      all_keys = part.2.noted_keys
 
       all_last : take l b'.rows ≡ all_lasts t
       unfolding t
-      all_last = part.2.noted-lasts ∙ ap (λ (x : Scopes). lasts 0 x part.0) open_at
+      all_last = part.2.noted_lasts ∙ ap (λ (x : Scopes). lasts 0 x part.0) open_at
 
       pub keys_small : Small (take k b'.all)
       keys_small = rw all_keys (λ m i. omega (arith, range_key m t in_range (in_has m t i).1))

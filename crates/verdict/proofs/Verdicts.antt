@@ -71,7 +71,7 @@ module _ (t : Term) (n : ℕ) (ks acs es ss us first second : List ℕ) (l : Lai
 
     -- what the cycle test asks for
     pub asked : Noted us first second
-    asked = noted n ks us first second e l.some l.few l.keys l.ups-below x l.square.ups
+    asked = noted n ks us first second e l.some l.few l.keys l.ups_below x l.square.ups
 
     module _ (h : 7 ≤ r) (one two : List ℕ) (f : Climbed us first one) (i : Climbed us second two) where
       same : tests.Acyclic (all t) ↔ graph.Acyclic one two

@@ -26,7 +26,7 @@ mul-row : tie.Need-overflow-mul-row invariant-loop decreases-loop
 mul-row c = omega (arith, c.before.before.take.ensures.number, c.before.before.before.before.before.before.before.before.before.before.before.before.before.requires.0.0.few)
 
 shared-slice-read-row : tie.Need-shared-slice-read-row invariant-loop decreases-loop
-shared-slice-read-row c = omega (arith, c.before.before.before.take.ensures.number, c.before.before.before.before.before.before.before.before.before.before.before.before.before.before.requires.0.0.long-keys)
+shared-slice-read-row c = omega (arith, c.before.before.before.take.ensures.number, c.before.before.before.before.before.before.before.before.before.before.before.before.before.before.requires.0.0.long_keys)
 
 mul-row-2 : tie.Need-overflow-mul-row-2 invariant-loop decreases-loop
 mul-row-2 c = omega (arith, c.before.before.before.before.before.loop-test.true, c.before.before.before.before.before.before.before.before.before.before.before.before.before.before.requires.0.0.few)

@@ -20,7 +20,7 @@ mul_wide : tie.Need-overflow-mul-wide invariant-loop decreases-loop
 mul_wide c = omega (arith, c.before.before.before.before.before.requires.3.number, c.before.before.before.before.before.requires.1.few)
 
 shared-slice-read-wide : tie.Need-shared-slice-read-wide invariant-loop decreases-loop
-shared-slice-read-wide c = omega (arith, c.before.before.before.before.before.before.requires.3.number, c.before.before.before.before.before.before.requires.1.long-heads)
+shared-slice-read-wide c = omega (arith, c.before.before.before.before.before.before.requires.3.number, c.before.before.before.before.before.before.requires.1.long_heads)
 
 wide-requires : tie.Need-wide-requires invariant-loop decreases-loop
 wide-requires c κs = search rules
@@ -32,7 +32,7 @@ mul-wide-2 : tie.Need-overflow-mul-wide-2 invariant-loop decreases-loop
 mul-wide-2 c = omega (arith, (c.before.loop.invariant.2 c.before.before.before.before.before.before.before.before.before.requires.0 c.before.before.before.before.before.before.before.before.before.requires.1 c.before.before.before.before.before.before.before.before.before.requires.2 c.before.before.before.before.before.before.before.before.before.requires.3).low, c.before.before.before.before.before.before.before.before.before.requires.1.rows)
 
 shared-slice-read-wide-2 : tie.Need-shared-slice-read-wide-2 invariant-loop decreases-loop
-shared-slice-read-wide-2 c = omega (arith, (c.before.before.loop.invariant.2 c.before.before.before.before.before.before.before.before.before.before.requires.0 c.before.before.before.before.before.before.before.before.before.before.requires.1 c.before.before.before.before.before.before.before.before.before.before.requires.2 c.before.before.before.before.before.before.before.before.before.before.requires.3).low, c.before.before.before.before.before.before.before.before.before.before.requires.1.long-ups)
+shared-slice-read-wide-2 c = omega (arith, (c.before.before.loop.invariant.2 c.before.before.before.before.before.before.before.before.before.before.requires.0 c.before.before.before.before.before.before.before.before.before.before.requires.1 c.before.before.before.before.before.before.before.before.before.before.requires.2 c.before.before.before.before.before.before.before.before.before.before.requires.3).low, c.before.before.before.before.before.before.before.before.before.before.requires.1.long_ups)
 
 wide-requires-2 : tie.Need-wide-requires-2 invariant-loop decreases-loop
 wide-requires-2 c κs = search rules
@@ -44,7 +44,7 @@ mul-wide-3 : tie.Need-overflow-mul-wide-3 invariant-loop decreases-loop
 mul-wide-3 c = omega (arith, (c.before.before.before.before.before.before.before.before.before.before.loop.invariant.2 c.before.before.before.before.before.before.before.before.before.before.before.before.before.before.before.before.before.before.requires.0 c.before.before.before.before.before.before.before.before.before.before.before.before.before.before.before.before.before.before.requires.1 c.before.before.before.before.before.before.before.before.before.before.before.before.before.before.before.before.before.before.requires.2 c.before.before.before.before.before.before.before.before.before.before.before.before.before.before.before.before.before.before.requires.3).low, c.before.before.before.before.before.before.before.before.before.before.before.before.before.before.before.before.before.before.requires.1.rows)
 
 shared-slice-read-wide-3 : tie.Need-shared-slice-read-wide-3 invariant-loop decreases-loop
-shared-slice-read-wide-3 c = omega (arith, (c.before.before.before.before.before.before.before.before.before.before.before.loop.invariant.2 c.before.before.before.before.before.before.before.before.before.before.before.before.before.before.before.before.before.before.before.requires.0 c.before.before.before.before.before.before.before.before.before.before.before.before.before.before.before.before.before.before.before.requires.1 c.before.before.before.before.before.before.before.before.before.before.before.before.before.before.before.before.before.before.before.requires.2 c.before.before.before.before.before.before.before.before.before.before.before.before.before.before.before.before.before.before.before.requires.3).low, c.before.before.before.before.before.before.before.before.before.before.before.before.before.before.before.before.before.before.before.requires.1.long-olds)
+shared-slice-read-wide-3 c = omega (arith, (c.before.before.before.before.before.before.before.before.before.before.before.loop.invariant.2 c.before.before.before.before.before.before.before.before.before.before.before.before.before.before.before.before.before.before.before.requires.0 c.before.before.before.before.before.before.before.before.before.before.before.before.before.before.before.before.before.before.before.requires.1 c.before.before.before.before.before.before.before.before.before.before.before.before.before.before.before.before.before.before.before.requires.2 c.before.before.before.before.before.before.before.before.before.before.before.before.before.before.before.before.before.before.before.requires.3).low, c.before.before.before.before.before.before.before.before.before.before.before.before.before.before.before.before.before.before.before.requires.1.long_olds)
 
 wide-requires-3 : tie.Need-wide-requires-3 invariant-loop decreases-loop
 wide-requires-3 c κs = search rules

@@ -15,4 +15,4 @@ pub node_at-requires : goal.node_at-requires
 node_at-requires c = c.if-s-at.false
 
 pub returns : goal.returns
-returns c = due_head c.args.s.now c.args.at c.args.deep c.args.left c.node_at.result c.if-s-at.false c.if-deep-eq0.false c.if-left-eq0.false c.Node-at.ensures
+returns c = due_head c.args.s.now c.args.at c.args.deep c.args.left c.node_at.result c.if-s-at.false c.if-deep-eq0.false c.if-left-eq0.false c.node_at.ensures

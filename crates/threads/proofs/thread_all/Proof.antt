@@ -30,10 +30,10 @@ loop-again : tie.Need-loop-preserved invariant-loop decreases-loop
 loop-again c = (c.before.before.before.heads.given ∙ c.before.before.before.before.before.before.before.before.before.before.before.before.before.before.loop.invariant.0, c.before.counters.given ∙ c.before.before.before.before.before.before.before.before.before.before.before.before.before.before.loop.invariant.1, omega (arith, c.before.before.before.before.before.before.before.before.before.before.before.before.before.loop-test.true), row_threaded c.before.before.before.before.before.before.before.before.before.before.before.before.before.before.before.before.before.before.before.before.args.marks.now _ c.before.before.before.before.before.before.before.before.before.before.before.before.before.before.before.before.before.before.before.before.args.links c.before.before.before.before.before.before.before.before.before.before.before.before.before.before.before.before.before.before.before.before.args.upper.now c.before.before.before.before.before.before.before.before.before.before.before.before.before.before.before.before.before.before.before.before.args.lower.now c.before.before.before.before.before.before.before.before.before.before.before.before.before.before.before.before.before.before.before.before.requires.0 c.before.before.before.before.before.before.before.before.before.before.before.before.before.before.loop.i c.before.before.before.before.before.before.before.before.before.before.before.before.before.before.loop.upper c.before.before.before.before.before.before.before.before.before.before.before.before.before.before.loop.older c.before.before.before.before.before.before.before.before.before.before.before.before.before.before.loop.heads c.before.before.before.before.before.before.before.before.before.before.before.before.before.before.loop.counters c.before.before.before.before.before.before.before.before.before.before.before.before.before.before.loop.invariant.3 c.before.before.before.before.before.before.before.before.before.before.before.before.before.loop-test.true (omega (arith, c.before.before.before.before.before.before.before.before.before.before.before.before.before.before.loop.invariant.0, c.before.before.before.before.before.before.before.before.before.before.before.before.before.before.before.before.before.before.before.before.requires.1.heads)) (omega (arith, c.before.before.before.before.before.before.before.before.before.before.before.before.before.before.loop.invariant.1, c.before.before.before.before.before.before.before.before.before.before.before.before.before.before.before.before.before.before.before.before.requires.1.counters)) _ _ _ _ c.before.before.before.before.before.before.before.before.thread.ensures)
 
 same_length : tie.Need-same-length invariant-loop decreases-loop
-same_length c = c.before.loop.invariant.3.long-ups
+same_length c = c.before.loop.invariant.3.long_ups
 
 same-length-2 : tie.Need-same-length-2 invariant-loop decreases-loop
-same-length-2 c = omega (arith, c.before.loop.invariant.3.long-olds, c.before.before.before.before.before.before.before.requires.1.older)
+same-length-2 c = omega (arith, c.before.loop.invariant.3.long_olds, c.before.before.before.before.before.before.before.requires.1.older)
 
 same-length-3 : tie.Need-same-length-3 invariant-loop decreases-loop
 same-length-3 c = c.before.loop.invariant.0

@@ -1,0 +1,28 @@
+-- `gather` meets its contract: the queue holds the numbers below `k` whose counter is 0.
+use borrow.Author.Rules.{rules}
+use native.Mathlib.Omega.{arith}
+use mathlib.Core.Path.{refl}
+use Prim.Native.Nat.{◌-◌}
+use mathlib.Core.Logic.{⊎_elim}
+use lib.ListN.{length-set}
+use Rattle.cycles.proofs.Queues.{queued_none}
+use Rattle.cycles.proofs.Steps.{gather_free, gather_skip, gather_room, gathered}
+use Rattle.cycles.proofs.gather.Goals as goal
+
+pub loop-queue-init : goal.loop-queue-init
+loop-queue-init c = (search rules, refl, queued_none c.args.counters.now c.args.queue.now)
+
+pub offset_bounds-queue-tail : goal.offset_bounds-queue-tail
+offset_bounds-queue-tail c = omega (arith, gather_room c.args.counters.now c.loop-queue.queue c.loop-queue.tail c.loop-queue.k c.loop-queue.invariant.2, c.wide.ensures, c.loop-queue.invariant.1)
+
+pub bounds-queue-tail : goal.bounds-queue-tail
+bounds-queue-tail c = omega (arith, gather_room c.args.counters.now c.loop-queue.queue c.loop-queue.tail c.loop-queue.k c.loop-queue.invariant.2, c.wide.ensures, c.loop-queue.invariant.1)
+
+pub overflow_add-tail : goal.overflow_add-tail
+overflow_add-tail c = omega (arith, gather_room c.args.counters.now c.loop-queue.queue c.loop-queue.tail c.loop-queue.k c.loop-queue.invariant.2, c.wide.ensures, c.loop-queue.invariant.1)
+
+pub loop-queue-preserved : goal.loop-queue-preserved
+loop-queue-preserved c = ⊎_elim (λ w. (omega (arith, c.wide.ensures), rw w.1 (simp length-set c.loop-queue.invariant.1), rw (w.1, w.2) (gather_free c.args.counters.now c.loop-queue.queue c.loop-queue.tail c.loop-queue.k c.wide-in-loop-queue.result c.wide-in-loop-queue.ensures c.loop-queue.invariant.2 w.0.taken (omega (arith, c.wide.ensures)) (omega (arith, c.requires, c.loop-queue.invariant.1))))) (λ w. (omega (arith, c.wide.ensures), rw w.1 c.loop-queue.invariant.1, rw (w.1, w.2) (gather_skip c.args.counters.now c.loop-queue.queue c.loop-queue.tail c.loop-queue.k c.wide-in-loop-queue.result c.wide-in-loop-queue.ensures c.loop-queue.invariant.2 w.0.left))) c.if-counters-wide-eq0.branch
+
+pub returns : goal.returns
+returns c = gathered c.args.counters.now c.loop-queue.queue c.loop-queue.tail c.loop-queue.k (omega arith) c.loop-queue.invariant.0 c.loop-queue.invariant.2
