@@ -8,7 +8,7 @@ use borrow.Author.Tests.{ne_eqb, le-leb}
 use lib.ListN.{length, take, drop, get_or, length-drop}
 use lib.Seq.{get_or-drop, drop-drop, take-append_seam, drop-append_seam}
 use Rattle.ccsk.specs.Term.{Term, nil, pre, cho, par, res}
-use Rattle.format.specs.Read.{Reading, Reading.refused, term, kind_of, node}
+use Rattle.format.specs.Read.{Reading, term, kind_of, node}
 use Rattle.format.specs.Encode.{high, low, encode, depth, InRange}
 use Rattle.format.specs.Preorder.{shown, preorder}
 use Rattle.reader.specs.Head.{body, count_of_children, NodeAt, NoNodeAt}

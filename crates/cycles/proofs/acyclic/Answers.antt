@@ -5,13 +5,13 @@ use borrow.Author.Rules.{rules}
 use Rattle.cycles.proofs.acyclic.Goals as goal
 
 pub count-requires : goal.count-requires
-count-requires c = first_asked c.args.one.now c.args.two.now c.args.counters.now c.clear.new.0 c.requires.columns c.requires.counters_len.0 c.clear.ensures
+count-requires c = let h = first_asked c.args.one.now c.args.two.now c.args.counters.now c.clear.new.counters c.requires.columns c.requires.counters_len c.clear.ensures in record { below = h.0; room = h.1 }
 
 pub count-requires-2 : goal.count-requires-2
-count-requires-2 c = second_asked c.args.one.now c.args.two.now c.args.counters.now c.clear.new.0 c.requires.columns c.requires.counters_len.0 c.clear.ensures c.count.new.1.0 (search rules) c.count.ensures
+count-requires-2 c = let h = second_asked c.args.one.now c.args.two.now c.args.counters.now c.clear.new.counters c.requires.columns c.requires.counters_len c.clear.ensures c.count.new.counters (search rules) c.count.ensures in record { below = h.0; room = h.1 }
 
 pub peel-taken-requires : goal.peel-taken-requires
-peel-taken-requires c = ready c.args.one.now c.args.two.now c.args.counters.now c.clear.new.0 c.requires.columns c.requires.counters_len.0 c.clear.ensures c.count.new.1.0 (search rules) c.count.ensures c.count-2.new.1.0 c.gather-free.new.1.0 c.gather-free.result (search rules) c.count-2.ensures (search rules) c.gather-free.ensures
+peel-taken-requires c = ready c.args.one.now c.args.two.now c.args.counters.now c.clear.new.counters c.requires.columns c.requires.counters_len c.clear.ensures c.count.new.counters (search rules) c.count.ensures c.count-2.new.counters c.gather-free.new.queue c.gather-free.result (search rules) c.count-2.ensures (search rules) c.gather-free.ensures
 
 pub overflow_sub-result : goal.overflow_sub-result
 overflow_sub-result c = omega (arith, c.requires.columns.some)

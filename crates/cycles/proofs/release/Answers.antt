@@ -10,7 +10,7 @@ pub overflow_sub-left : goal.overflow_sub-left
 overflow_sub-left c = omega (arith, c.wide-at.ensures, ap (λ (x : ℕ). get_or c.args.counters.now x 0) c.wide-at.ensures)
 
 pub returns-then-left-eq0 : goal.returns-then-left-eq0
-returns-then-left-eq0 c = release_free c.args.u c.wide-at.result c.args.counters.now c.args.queue.now c.args.tail c.wide-at.ensures c.requires.nonzero.0 c.if-left-eq0.true
+returns-then-left-eq0 c = release_free c.args.u c.wide-at.result c.args.counters.now c.args.queue.now c.args.tail c.wide-at.ensures c.requires.nonzero c.if-left-eq0.true
 
 pub returns : goal.returns
-returns c = release_fell c.args.u c.wide-at.result c.args.counters.now c.args.queue.now c.args.tail c.wide-at.ensures c.requires.nonzero.0 c.if-left-eq0.false
+returns c = release_fell c.args.u c.wide-at.result c.args.counters.now c.args.queue.now c.args.tail c.wide-at.ensures c.requires.nonzero c.if-left-eq0.false
