@@ -1,5 +1,5 @@
 // The walker (01, The record): a record that is lent and its own place in it, kept together. Thin functions over the cursor.
-// The borrow checker covers no function over such a struct: these are walked by hand. `node`, on plain parameters, is for all other callers.
+// `node`, on plain parameters, is for all other callers.
 #![tactic(auto)]
 
 ghost use Rattle.std.specs.Prelude.{◌≡◌};
