@@ -1,5 +1,5 @@
 -- `cause` meets its contract: each way through the code is one row, two rows or none, and the first test that fails decides.
-use borrow.Author.Tests.{not-true, not-false}
+use Rattle.std.proofs.lemmas.Bool.{not-true, not-false}
 use native.Mathlib.Omega.{arith}
 use Rattle.shared.proofs.Labels.{tells_iff}
 use Rattle.pairs.proofs.Lowest.{no_rows, lone_open, lone_hidden, pair_differs, pair_nested, pair_open, pair_hidden}
