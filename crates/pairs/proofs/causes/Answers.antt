@@ -1,7 +1,6 @@
 -- `causes` meets its contract: before each turn the answer is right for the numbers below `k`.
 use borrow.Author.Rules.{rules}
 use native.Mathlib.Omega.{arith}
-use Prim.Native.Nat.{◌-◌}
 use Rattle.pairs.proofs.Lowest.{none_below, one_lower, one_not_lower, all_below}
 use Rattle.pairs.proofs.causes.Goals.{then-c-least, else-c-least}
 use Rattle.pairs.proofs.causes.Goals as goal
