@@ -53,8 +53,8 @@ row_next : (i : ℕ) → row (i + 1) ≡ i ∷ []
 row_next i = rw (add-one i)
 
 -- the next row is entered
-pub one_indexed : (ks f s f' s' : List ℕ) (i k : ℕ) (b : Bool) → i < length ks → k ≡ get_or ks i 0 → k < length f → Indexed (take i ks) f s → b ≡ true → Entered i k f s f' s' b → (length f' ≡ length f) × Indexed (take (i + 1) ks) f' s'
-one_indexed ks f s f' s' i k b h e l w t (as_first z) = (length-set f k (i + 1), record { alike = w.alike ∙ sym (length-set f k (i + 1)); rows = λ m p. rows m (let x = length-set f k (i + 1) in omega arith) (ℕ_discrete m k); order = λ m p. order m (let x = length-set f k (i + 1) in omega arith) (ℕ_discrete m k) })
+pub one_indexed : (ks f s : List ℕ) (i k : ℕ) (f' s' : List ℕ) (b : Bool) → i < length ks → k ≡ get_or ks i 0 → k < length f → Indexed (take i ks) f s → b ≡ true → Entered i k f s f' s' b → (length f' ≡ length f) × Indexed (take (i + 1) ks) f' s'
+one_indexed ks f s i k f' s' b h e l w t (as_first z) = (length-set f k (i + 1), record { alike = w.alike ∙ sym (length-set f k (i + 1)); rows = λ m p. rows m (let x = length-set f k (i + 1) in omega arith) (ℕ_discrete m k); order = λ m p. order m (let x = length-set f k (i + 1) in omega arith) (ℕ_discrete m k) })
   where
     rows : (m : ℕ) → m < length f → Dec (m ≡ k) → rows_of m 0 (take (i + 1) ks) ≡ row (get_or (set f k (i + 1)) m 0) ++ row (get_or s m 0)
     rows m p (yes q) = rw (rows_next m ks i h, ← e, q, rows_same k i, w.rows k l, z, w.order k l z, get_or-set_same f k (i + 1) 0 l, row_next i)
@@ -63,7 +63,7 @@ one_indexed ks f s f' s' i k b h e l w t (as_first z) = (length-set f k (i + 1),
     order : (m : ℕ) → m < length f → Dec (m ≡ k) → get_or (set f k (i + 1)) m 0 ≡ 0 → get_or s m 0 ≡ 0
     order m p (yes q) y = rw q (w.order k l z)
     order m p (no q) y = w.order m p (sym (get_or-set_other f k m (i + 1) 0 q) ∙ y)
-one_indexed ks f s f' s' i k b h e l w t (as_second g z) = (refl, record { alike = length-set s k (i + 1) ∙ w.alike; rows = λ m p. rows m p (ℕ_discrete m k); order = λ m p. order m p (ℕ_discrete m k) })
+one_indexed ks f s i k f' s' b h e l w t (as_second g z) = (refl, record { alike = length-set s k (i + 1) ∙ w.alike; rows = λ m p. rows m p (ℕ_discrete m k); order = λ m p. order m p (ℕ_discrete m k) })
   where
     long : k < length s
     long = let x = w.alike in omega arith
@@ -75,17 +75,17 @@ one_indexed ks f s f' s' i k b h e l w t (as_second g z) = (refl, record { alike
     order : (m : ℕ) → m < length f → Dec (m ≡ k) → get_or f m 0 ≡ 0 → get_or (set s k (i + 1)) m 0 ≡ 0
     order m p (yes q) y = absurd (g (rw q at y))
     order m p (no q) y = get_or-set_other s k m (i + 1) 0 q ∙ w.order m p y
-one_indexed ks f s f' s' i k b h e l w t (as_third g z) = absurd (false≢true t)
+one_indexed ks f s i k f' s' b h e l w t (as_third g z) = absurd (false≢true t)
 
 row_one : (x : ℕ) → x ≢ 0 → length (row x) ≡ 1
 row_one zero f = absurd (f refl)
 row_one (suc x) f = refl
 
 -- the next row is a third one
-pub third_row : (ks f s f' s' : List ℕ) (i k : ℕ) (b : Bool) → i < length ks → k ≡ get_or ks i 0 → k < length f → Indexed (take i ks) f s → b ≡ false → Entered i k f s f' s' b → (m : ℕ) × (2 < length (rows_of m 0 ks))
-third_row ks f s f' s' i k b h e l w t (as_first z) = absurd (true≢false t)
-third_row ks f s f' s' i k b h e l w t (as_second g z) = absurd (true≢false t)
-third_row ks f s f' s' i k b h e l w t (as_third g z) = (k, longer)
+pub third_row : (ks f s : List ℕ) (i k : ℕ) (f' s' : List ℕ) (b : Bool) → i < length ks → k ≡ get_or ks i 0 → k < length f → Indexed (take i ks) f s → b ≡ false → Entered i k f s f' s' b → (m : ℕ) × (2 < length (rows_of m 0 ks))
+third_row ks f s i k f' s' b h e l w t (as_first z) = absurd (true≢false t)
+third_row ks f s i k f' s' b h e l w t (as_second g z) = absurd (true≢false t)
+third_row ks f s i k f' s' b h e l w t (as_third g z) = (k, longer)
   where
     longer : 2 < length (rows_of k 0 ks)
     longer =

@@ -1,9 +1,8 @@
 -- `causes` meets its contract: before each turn the answer is right for the numbers below `k`.
 use borrow.Author.Rules.{rules}
 use native.Mathlib.Omega.{arith}
-use mathlib.Core.Logic.{⊎_elim}
-use Prim.Native.Nat.{◌-◌}
 use Rattle.pairs.proofs.Lowest.{none_below, one_lower, one_not_lower, all_below}
+use Rattle.pairs.proofs.causes.Goals.{then-c-least, else-c-least}
 use Rattle.pairs.proofs.causes.Goals as goal
 
 pub loop-k-init : goal.loop-k-init
@@ -19,7 +18,7 @@ pub cause-c-requires : goal.cause-c-requires
 cause-c-requires c = record { placed = c.requires.each_placed.placed c.loop-k.k (omega arith); ends_len = c.requires.ends_len }
 
 pub loop-k-preserved : goal.loop-k-preserved
-loop-k-preserved c = ⊎_elim (λ w. (omega arith, rw w.1 (one_lower c.args.actions.now c.args.ends.now c.args.scopes.now c.args.first.now c.args.second.now c.loop-k.k c.loop-k.least c.cause-c.result c.loop-k.invariant.1 c.cause-c.ensures w.0.taken))) (λ w. (omega arith, rw w.1 (one_not_lower c.args.actions.now c.args.ends.now c.args.scopes.now c.args.first.now c.args.second.now c.loop-k.k c.loop-k.least c.cause-c.result c.loop-k.invariant.1 c.cause-c.ensures w.0.left))) c.if-c-least.branch
+loop-k-preserved c = elim c.if-c-least.branch [ then-c-least w ↦ (omega arith, rw w.least-is (one_lower c.args.actions.now c.args.ends.now c.args.scopes.now c.args.first.now c.args.second.now c.loop-k.k c.loop-k.least c.cause-c.result c.loop-k.invariant.1 c.cause-c.ensures w.if-c-least.true)) | else-c-least w ↦ (omega arith, rw w.least-is (one_not_lower c.args.actions.now c.args.ends.now c.args.scopes.now c.args.first.now c.args.second.now c.loop-k.k c.loop-k.least c.cause-c.result c.loop-k.invariant.1 c.cause-c.ensures w.if-c-least.false)) ]
 
 pub returns : goal.returns
 returns c = all_below c.args.actions.now c.args.ends.now c.args.scopes.now c.args.first.now c.args.second.now c.loop-k.k c.loop-k.least (omega arith) c.loop-k.invariant.0 c.loop-k.invariant.1

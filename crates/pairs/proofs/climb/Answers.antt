@@ -2,10 +2,9 @@
 use borrow.Author.Rules.{rules}
 use native.Mathlib.Omega.{arith}
 use mathlib.Core.Path.{refl}
-use mathlib.Core.Logic.{⊎_elim}
-use Prim.Native.Nat.{◌-◌}
 use lib.ListN.{length-set}
 use Rattle.pairs.proofs.Climbing.{climb_none, climb_one, climb_skip, climb_inside, climb_all}
+use Rattle.pairs.proofs.climb.Goals.{then-r-ne0, else-r-ne0}
 use Rattle.pairs.proofs.climb.Goals as goal
 
 pub loop-k-init : goal.loop-k-init
@@ -21,7 +20,7 @@ pub bounds-ups-r : goal.bounds-ups-r
 bounds-ups-r c = omega (arith, climb_inside c.args.ups.now c.args.rows.now c.loop-k.rows c.loop-k.k c.wide-r.result c.loop-k.invariant.1 (omega arith) c.wide-r.ensures c.loop-k.invariant.2 c.requires c.if-r-ne0.true)
 
 pub loop-k-preserved : goal.loop-k-preserved
-loop-k-preserved c = ⊎_elim (λ w. (omega (arith, c.loop-k.invariant.1), rw w.2 (simp length-set c.loop-k.invariant.1), rw w.2 (climb_one c.args.ups.now c.args.rows.now c.loop-k.rows c.loop-k.k c.wide-r.result c.loop-k.invariant.1 (omega arith) c.wide-r.ensures c.loop-k.invariant.2 w.0.taken))) (λ w. (omega (arith, c.loop-k.invariant.1), rw w.1 c.loop-k.invariant.1, rw w.1 (climb_skip c.args.ups.now c.args.rows.now c.loop-k.rows c.loop-k.k c.wide-r.result c.loop-k.invariant.1 (omega arith) c.wide-r.ensures c.loop-k.invariant.2 w.0.left))) c.if-r-ne0.branch
+loop-k-preserved c = elim c.if-r-ne0.branch [ then-r-ne0 w ↦ (omega (arith, c.loop-k.invariant.1), rw w.rows-is (simp length-set c.loop-k.invariant.1), rw w.rows-is (climb_one c.args.ups.now c.args.rows.now c.loop-k.rows c.loop-k.k c.wide-r.result c.loop-k.invariant.1 (omega arith) c.wide-r.ensures c.loop-k.invariant.2 w.if-r-ne0.true)) | else-r-ne0 w ↦ (omega (arith, c.loop-k.invariant.1), rw w.rows-is c.loop-k.invariant.1, rw w.rows-is (climb_skip c.args.ups.now c.args.rows.now c.loop-k.rows c.loop-k.k c.wide-r.result c.loop-k.invariant.1 (omega arith) c.wide-r.ensures c.loop-k.invariant.2 w.if-r-ne0.false)) ]
 
 pub shape_of-rows : goal.shape_of-rows
 shape_of-rows c = c.loop-k.invariant.1

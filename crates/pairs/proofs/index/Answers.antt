@@ -1,9 +1,8 @@
 -- `index` meets its contract: the rows before `i` have been entered.
 use borrow.Author.Rules.{rules}
-use borrow.Author.Tests.{not-true, not-false}
 use native.Mathlib.Omega.{arith}
 use mathlib.Core.Path.{refl, ap, ◌∙◌}
-use Prim.Native.Nat.{ℕ, ◌-◌}
+use Prim.Native.Nat.{ℕ}
 use lib.ListN.{get_or}
 use Rattle.pairs.proofs.Indexing.{none_indexed, one_indexed, third_row, all_indexed, key_below}
 use Rattle.pairs.proofs.index.Goals as goal
@@ -21,7 +20,7 @@ pub enter-requires : goal.enter-requires
 enter-requires c = record { k_in_bounds = (key_below c.args.keys.now c.loop-first.first c.args.first.now c.loop-first.i c.wide-in-loop-first-2.result (omega (arith, c.wide.ensures)) (c.wide-in-loop-first-2.ensures ∙ ap (λ (x : ℕ). get_or c.args.keys.now x 0) c.wide-in-loop-first.ensures) c.loop-first.invariant.1 c.requires.below); row_bound = (omega (arith, c.wide.ensures, c.requires.keys_len_bound.0), c.loop-first.invariant.2.alike) }
 
 pub returns-then-not-enter : goal.returns-then-not-enter
-returns-then-not-enter c = third_row c.args.keys.now c.loop-first.first c.loop-first.second c.enter.new.first c.enter.new.second c.loop-first.i c.wide-in-loop-first-2.result c.enter.result (omega (arith, c.wide.ensures)) (c.wide-in-loop-first-2.ensures ∙ ap (λ (x : ℕ). get_or c.args.keys.now x 0) c.wide-in-loop-first.ensures) (key_below c.args.keys.now c.loop-first.first c.args.first.now c.loop-first.i c.wide-in-loop-first-2.result (omega (arith, c.wide.ensures)) (c.wide-in-loop-first-2.ensures ∙ ap (λ (x : ℕ). get_or c.args.keys.now x 0) c.wide-in-loop-first.ensures) c.loop-first.invariant.1 c.requires.below) c.loop-first.invariant.2 (not-true c.enter.result c.if-not-enter.true) c.enter.ensures
+returns-then-not-enter c = third_row c.args.keys.now c.loop-first.first c.loop-first.second c.loop-first.i c.wide-in-loop-first-2.result c.enter.new.first c.enter.new.second c.enter.result (omega (arith, c.wide.ensures)) (c.wide-in-loop-first-2.ensures ∙ ap (λ (x : ℕ). get_or c.args.keys.now x 0) c.wide-in-loop-first.ensures) (key_below c.args.keys.now c.loop-first.first c.args.first.now c.loop-first.i c.wide-in-loop-first-2.result (omega (arith, c.wide.ensures)) (c.wide-in-loop-first-2.ensures ∙ ap (λ (x : ℕ). get_or c.args.keys.now x 0) c.wide-in-loop-first.ensures) c.loop-first.invariant.1 c.requires.below) c.loop-first.invariant.2 c.if-not-enter.true c.enter.ensures
 
 pub overflow_add-i : goal.overflow_add-i
 overflow_add-i c = omega (arith, c.wide.ensures, c.requires.keys_len_bound.0)
@@ -30,7 +29,7 @@ pub loop-first-smaller : goal.loop-first-smaller
 loop-first-smaller c = omega (arith, c.wide.ensures)
 
 pub loop-first-preserved : goal.loop-first-preserved
-loop-first-preserved c = let w = one_indexed c.args.keys.now c.loop-first.first c.loop-first.second c.enter.new.first c.enter.new.second c.loop-first.i c.wide-in-loop-first-2.result c.enter.result (omega (arith, c.wide.ensures)) (c.wide-in-loop-first-2.ensures ∙ ap (λ (x : ℕ). get_or c.args.keys.now x 0) c.wide-in-loop-first.ensures) (key_below c.args.keys.now c.loop-first.first c.args.first.now c.loop-first.i c.wide-in-loop-first-2.result (omega (arith, c.wide.ensures)) (c.wide-in-loop-first-2.ensures ∙ ap (λ (x : ℕ). get_or c.args.keys.now x 0) c.wide-in-loop-first.ensures) c.loop-first.invariant.1 c.requires.below) c.loop-first.invariant.2 (not-false c.enter.result c.if-not-enter.false) c.enter.ensures in (omega (arith, c.wide.ensures), w.0 ∙ c.loop-first.invariant.1, w.1)
+loop-first-preserved c = let w = one_indexed c.args.keys.now c.loop-first.first c.loop-first.second c.loop-first.i c.wide-in-loop-first-2.result c.enter.new.first c.enter.new.second c.enter.result (omega (arith, c.wide.ensures)) (c.wide-in-loop-first-2.ensures ∙ ap (λ (x : ℕ). get_or c.args.keys.now x 0) c.wide-in-loop-first.ensures) (key_below c.args.keys.now c.loop-first.first c.args.first.now c.loop-first.i c.wide-in-loop-first-2.result (omega (arith, c.wide.ensures)) (c.wide-in-loop-first-2.ensures ∙ ap (λ (x : ℕ). get_or c.args.keys.now x 0) c.wide-in-loop-first.ensures) c.loop-first.invariant.1 c.requires.below) c.loop-first.invariant.2 c.if-not-enter.false c.enter.ensures in (omega (arith, c.wide.ensures), w.0 ∙ c.loop-first.invariant.1, w.1)
 
 pub shape_of-first : goal.shape_of-first
 shape_of-first c = c.loop-first.invariant.1
