@@ -18,7 +18,7 @@ use Rattle.ccsk.proofs.Lists.{in_left, in_right, in_either, get_or_zeros, distin
 use Rattle.keyset.specs.Set.{member}
 use Rattle.keys.specs.Gather.{Holds}
 use Rattle.keys.proofs.Marks.{holds_members}
-use Rattle.operations.specs.Ask.{Filled, Filled.short, Filled.filled}
+use Rattle.operations.specs.Ask.{Filled}
 use Rattle.rank.specs.Rank.{rank}
 use Rattle.rank.proofs.Ranks.{rank_ordered, rank_less, rank_once, rank_reached, rank_counts}
 use Rattle.lasts.specs.Last.{Last, only, Ready}
