@@ -151,17 +151,17 @@ module _ (x : Cabinet) (n : ℕ) (u k : Key) (H : Holding x n) (g : n < node_lim
       back (inr z) = (n + 1, rw z.0 p, upper_new ∙ sym z.0, lower_new ∙ sym z.1)
 
 -- filing at a node that holds k, below u
-pub holding_filed : {x y : Cabinet} {n r : ℕ} {u k : Key} → Files n u k x y r → Holding x n → n < node_limit → Holding y r
+pub holding_filed : {x : Cabinet} {n : ℕ} {u k : Key} {y : Cabinet} {r : ℕ} → Files n u k x y r → Holding x n → n < node_limit → Holding y r
 holding_filed (none z) H g = H
 holding_filed {x} {n = n} {u = u} {k = k} (one p q) H g = holding_more x n u k H g p
 
-pub link_filed : {x y : Cabinet} {n r : ℕ} {u k : Key} → Files n u k x y r → Holding x n → n < node_limit
+pub link_filed : {x : Cabinet} {n : ℕ} {u k : Key} {y : Cabinet} {r : ℕ} → Files n u k x y r → Holding x n → n < node_limit
     → (m j : Key) → Link y m j ↔ (Link x m j ⊎ ((0 < u) × (0 < k) × (m ≡ u) × (j ≡ k)))
 link_filed (none z) H g m j = (inl, λ l. ⊎_elim (λ i. i) (λ i. ⊎_elim (never i.0) (never i.1) z) l)
 link_filed {x} {n = n} {u = u} {k = k} (one p q) H g m j = let w = link_more x n u k H g p m j in
     (λ l. ⊎_elim inl (λ i. inr (p, q, i.0, i.1)) (w.0 l), λ l. w.1 (⊎_elim inl (λ i. inr (i.2, i.3)) l))
 
 -- at most one link more
-pub filed_few : {x y : Cabinet} {n r : ℕ} {u k : Key} → Files n u k x y r → r ≤ n + 1
+pub filed_few : {x : Cabinet} {n : ℕ} {u k : Key} {y : Cabinet} {r : ℕ} → Files n u k x y r → r ≤ n + 1
 filed_few (none z) = omega arith
 filed_few (one p q) = omega arith

@@ -1,5 +1,5 @@
 -- Links from a key to one right below it, in four columns. The links are numbered from 1; 0 is none. Each is filed in the drawer of its upper key.
-use Rattle.std.specs.Prelude.{◌≡◌, ◌⊎◌, List, ℕ, zero, suc, ◌+◌, ◌*◌, ◌<◌, ◌/◌, ◌%◌, length, get_or, set}
+use Rattle.std.specs.Prelude.{◌≡◌, ◌⊎◌, List, ℕ, suc, ◌+◌, ◌*◌, ◌<◌, ◌/◌, ◌%◌, length, get_or, set}
 use Rattle.ccsk.specs.Term.{Key}
 use Rattle.format.specs.Limits.{node_limit}
 

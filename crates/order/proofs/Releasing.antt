@@ -1,5 +1,5 @@
 -- Releasing what stands right above a key, from row to row.
-use mathlib.Core.Path.{◌≡◌, sym, ◌∙◌}
+use mathlib.Core.Path.{◌≡◌, sym, subst, ◌∙◌}
 use mathlib.Core.Logic.{inl, inr, ⊎_elim, ◌≢◌, ◌↔◌}
 use mathlib.Core.List.{List, ◌∷◌}
 use Prim.Native.Nat.{ℕ, suc, ◌+◌, ◌-◌, ◌<◌}
@@ -111,7 +111,9 @@ module _ {n : ℕ} {keys ups olds heads : List ℕ} (c : Scene n keys ups olds h
         where
           pick : Dec (q ≡ u) → Free q (set counts u v) tree'
           pick (no z) = free_other tree' q g z (P.kept q g z)
-          pick (yes z) = rw (z, get_or-set_same counts u v 0 (omega (arith, T.long, here.1.1))) (λ l. (p, u_new), λ l. P.here)
+          pick (yes z) =
+              let f : Free u (set counts u v) tree' = rw (get_or-set_same counts u v 0 (omega (arith, T.long, here.1.1))) (λ l. (p, u_new), λ l. P.here) in
+              subst (λ (x : ℕ). Free x (set counts u v) tree') (sym z) f
 
       taken : (tree' : List ℕ) → Board n tree' → ((q : ℕ) → q < n → Free q (set counts u v) tree') → Taken c out r (get_or olds i 0) (set counts u v) tree'
       taken tree' W f = record {

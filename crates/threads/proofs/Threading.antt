@@ -2,12 +2,11 @@
 use mathlib.Core.Path.{◌≡◌, refl, sym, ap, subst, ◌∙◌}
 use mathlib.Core.Logic.{inl, inr, ◌≢◌}
 use mathlib.Core.List.{List, []}
-use mathlib.Core.Bool.{Bool, true, false, not, true≢false}
+use mathlib.Core.Bool.{Bool, true, false, true≢false}
 use Prim.Native.Nat.{ℕ, zero, suc, ◌+◌, ◌-◌, ◌/◌, ◌%◌, ◌≤◌, ◌<◌}
 use native.Mathlib.Decide.{ℕ_discrete, dec_lt}
 use native.Mathlib.Numerals.{add-one}
 use native.Mathlib.Omega.{arith}
-use borrow.Author.Tests.{not-true, not-false}
 use lib.ListN.{length, get_or, set, length-set}
 use lib.Seq.{get_or-set_same, get_or-set_other}
 use Rattle.ccsk.specs.Term.{Key}
@@ -38,12 +37,12 @@ rank_low marks e k h = rank_less marks k 65536 h (held_small marks e k h)
 
 -- what threading one row asks for and comes to; b tells whether its upper key is in the set
 module _ (marks base us ls os hs cs : List ℕ) (i : ℕ) (T : Threadable marks base us ls os hs cs i) (b : Bool) (e : b ≡ member marks (get_or us i 0)) where
-  pub row_passed : not b ≡ true → Threads marks us ls os hs cs i us os hs cs
-  row_passed f = passed (sym e ∙ not-true b f)
+  pub row_passed : b ≡ false → Threads marks us ls os hs cs i us os hs cs
+  row_passed f = passed (sym e ∙ f)
 
-  module _ (f : not b ≡ false) where
+  module _ (f : b ≡ true) where
     pub upper_held : Held marks (get_or us i 0)
-    upper_held = sym e ∙ not-false b f
+    upper_held = sym e ∙ f
 
     pub lower_held : Held marks (get_or ls i 0)
     lower_held = T.inside upper_held

@@ -1,0 +1,16 @@
+-- `order` meets its contract: the rows are threaded, the tree is planted, and the keys are taken out.
+use native.Mathlib.Omega.{arith}
+use Rattle.order.proofs.Whole.{listable, ranked_keys, ready, room, scene, sorted, state}
+use Rattle.order.proofs.order.Goals as goal
+
+pub list-requires : goal.list-requires
+list-requires c = record { marks_len = c.requires.sortable.whole; n_value = (listable c.args.marks.now c.args.n c.args.links c.args.upper.now c.args.lower.now c.requires.sortable, room c.args.marks.now c.args.n c.args.links c.args.upper.now c.args.lower.now c.requires.sortable) }
+
+pub thread_all-requires : goal.thread_all-requires
+thread_all-requires c = record { sortable = ranked_keys c.args.marks.now c.args.n c.args.links c.args.upper.now c.args.lower.now c.requires.sortable; ready = ready c.args.marks.now c.args.n c.args.links c.args.upper.now c.args.lower.now c.requires.sortable _ _ c.fill.ensures c.requires.older_len.0 }
+
+pub peel-requires : goal.peel-requires
+peel-requires c = record { peelable = (scene c.args.marks.now c.args.n c.args.links c.args.upper.now c.args.lower.now c.requires.sortable _ _ c.list.ensures _ _ _ _ _ c.thread_all.ensures c.plant.ensures (omega (arith, room c.args.marks.now c.args.n c.args.links c.args.upper.now c.args.lower.now c.requires.sortable, c.keys-2-1.given)) (omega (arith, room c.args.marks.now c.args.n c.args.links c.args.upper.now c.args.lower.now c.requires.sortable, c.heads-2-1.given)) (omega (arith, room c.args.marks.now c.args.n c.args.links c.args.upper.now c.args.lower.now c.requires.sortable, c.counters-2-1.given)), state c.args.marks.now c.args.n c.args.links c.args.upper.now c.args.lower.now c.requires.sortable _ _ c.list.ensures _ _ _ _ _ c.thread_all.ensures c.plant.ensures (omega (arith, room c.args.marks.now c.args.n c.args.links c.args.upper.now c.args.lower.now c.requires.sortable, c.keys-2-1.given)) (omega (arith, room c.args.marks.now c.args.n c.args.links c.args.upper.now c.args.lower.now c.requires.sortable, c.heads-2-1.given)) (omega (arith, room c.args.marks.now c.args.n c.args.links c.args.upper.now c.args.lower.now c.requires.sortable, c.counters-2-1.given))); n_in_bounds = c.requires.older_len.1 }
+
+pub returns : goal.returns
+returns c = sorted c.args.marks.now c.args.n c.args.links c.args.upper.now c.args.lower.now c.requires.sortable _ _ c.list.ensures _ _ _ _ _ c.thread_all.ensures c.plant.ensures (omega (arith, room c.args.marks.now c.args.n c.args.links c.args.upper.now c.args.lower.now c.requires.sortable, c.keys-2-1.given)) (omega (arith, room c.args.marks.now c.args.n c.args.links c.args.upper.now c.args.lower.now c.requires.sortable, c.heads-2-1.given)) (omega (arith, room c.args.marks.now c.args.n c.args.links c.args.upper.now c.args.lower.now c.requires.sortable, c.counters-2-1.given)) _ _ c.peel.ensures
