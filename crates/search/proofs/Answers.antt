@@ -1,6 +1,6 @@
 -- The answer of the search over the rows of a record is the operation's answer.
 use mathlib.Core.Path.{◌≡◌, ◌∙◌}
-use mathlib.Core.Logic.{◌⊎◌, inr, ⊎_elim, ◌≢◌, ◌↔◌}
+use mathlib.Core.Logic.{inr, ⊎_elim, ◌≢◌, ◌↔◌}
 use mathlib.Core.List.{List}
 use Prim.Native.Nat.{ℕ, ◌<◌}
 use lib.ListN.{length, get_or}
@@ -31,7 +31,7 @@ marked_all {Z = Z} {M = M} {all = all} {t = t} R e z h m = record { rows = R; ma
         (λ x. ⊎_elim (λ y. absurd (z i y)) (λ y. a.0 y) (w.0 x), λ x. w.1 (inr (a.1 x)))
 
 pub first_answer : (s : List ℕ) (t : Term) (p q : Node) → Reads s t → (r : First) → answer.NextOf t p q r
-    → FirstStep s p q (answer.refusal r) (answer.found r) (answer.first-place r) (answer.second-place r) (answer.label r)
+    → FirstStep s p q (answer.refusal r) (answer.found r) (answer.first_place r) (answer.second_place r) (answer.label r)
 first_answer s t p q h (Refused c) w = absurd w
 first_answer s t p q h None w = none h w
 first_answer s t p q h (Found p' q' l) w = found h w
