@@ -91,9 +91,9 @@ module _ (s : List ℕ) (m : Key) (x : Cabinet) (links : ℕ) (L : Linked s m x 
       zero = zero;
       upper = L.filed.0.sized.upper;
       lower = L.filed.0.sized.lower;
-      last = L.up_to_lem.0;
+      last = L.up_to.0;
       root = L.filed.0.zero;
-      rest = L.up_to_lem.1;
+      rest = L.up_to.1;
       closed = λ j k h l. let c = ((reached j).0 h).1 in (reached k).1 ((λ e. acyclic m (more c (subst (Link x j) e l))), more c l);
       acyclic = acyclic;
     }
