@@ -5,12 +5,11 @@ use Prim.Native.Nat.{ℕ, zero, suc, ◌+◌, ◌*◌, ◌≤◌, ◌<◌}
 use native.Mathlib.Omega.{arith}
 use lib.ListN.{length, get_or, take, drop, length-take}
 use lib.Seq.{get_or-take, get_or-drop}
-use Rattle.format.specs.Read.{Opened.refused}
 use Rattle.format.specs.Preorder.{shown}
 use Rattle.cursor.specs.declared.Shown.{Shown}
 use Rattle.cursor.specs.declared.Shown.TheVariants.{Node}
 use Rattle.cursor.specs.At.{showing}
-use Rattle.packing.specs.Packed.{answer, node_answer}
+use Rattle.packing.specs.Packed.{node_answer}
 use Rattle.packing.specs.Known.{Known}
 
 pub known_kind : (r : Shown) → Known r → (kind body long depth : ℕ) → r ≡ Node kind body long depth → kind ≤ 4

@@ -53,7 +53,7 @@ pub fn packed_number(given: Number) -> u64
 
 // The answer of the search for a step, packed.
 pub fn packed_first(given: First) -> u64
-    ensures { result ≡ answer (first.refusal given) (first.found given) (first.label given) (first.first-place given) (first.second-place given) }
+    ensures { result ≡ answer (first.refusal given) (first.found given) (first.label given) (first.first_place given) (first.second_place given) }
 {
     match given {
         First::Refused(c) => c as u64 * REFUSAL,
