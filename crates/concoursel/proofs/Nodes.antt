@@ -6,7 +6,7 @@ use lib.ListN.{take, drop}
 use lib.Seq.{drop-nil}
 use Rattle.format.specs.Read.{Opened, Opened.refused, opened, decode}
 use Rattle.format.specs.Encode.{Bytes}
-use Rattle.format.specs.Preorder.{shown, preorder}
+use Rattle.format.specs.Preorder.{preorder}
 use Rattle.operations.specs.Ask.{ReadRecord, ShownNode}
 use Rattle.operations.proofs.Readable.{read_fits}
 use Rattle.operations.proofs.NodeBounds.{SmallShown, term_node_small}

@@ -1,0 +1,6 @@
+-- `concoursel_read` meets its contract: the operation's answer, packed.
+use Rattle.packing.proofs.Packs.{pack_number}
+use Rattle.concoursel.proofs.concoursel_read.Goals as goal
+
+pub returns : goal.returns
+returns c = pack_number _ _ _ c.packed_number.ensures c.read.ensures
