@@ -29,7 +29,7 @@ pub count_ready-count-requires : goal.count_ready-count-requires
 count_ready-count-requires c = (c.settle.ensures.0, few_ranks c.args.all.now c.args.m _ c.requires.all_len.1 c.mark_all-total.ensures.1)
 
 pub returns-then-row-count : goal.returns-then-row-count
-returns-then-row-count c = lines_short (take c.args.m c.args.all.now) c.mark_all-total.new.marks (rows c.args.key.now c.args.action.now c.args.scope.now) (take c.args.n (rows c.args.key.now c.args.action.now c.args.scope.now)) c.settle.new.state c.settle.new.all c.mark_all-total.ensures.0 c.requires.all_len.2 c.requires.all_len.3 c.requires.key_len.4 c.settle.ensures.2 c.mark_all-total.result c.mark_all-total.ensures.1 c.args.row.now c.count_ready-count.result (c.count_ready-count.ensures c.settle.new.all) c.if-row-count.true
+returns-then-row-count c = lines_short (take c.args.m c.args.all.now) c.mark_all-total.new.marks (rows c.args.key.now c.args.action.now c.args.scope.now) (take c.args.n (rows c.args.key.now c.args.action.now c.args.scope.now)) c.settle.new.state c.settle.new.all c.mark_all-total.ensures.0 c.requires.all_len.2 c.requires.all_len.3 c.requires.key_len.4 c.settle.ensures.2 c.mark_all-total.result c.mark_all-total.ensures.1 c.args.row.now c.count_ready-count.result (c.count_ready-count.ensures c.settle.new.all) (omega (arith, c.if-row-count.true))
 
 pub write_ready-requires : goal.write_ready-requires
 write_ready-requires c = record { state_len = (c.settle.ensures.0, c.settle.ensures.1, few_ranks c.args.all.now c.args.m _ c.requires.all_len.1 c.mark_all-total.ensures.1); n_in_bounds = omega (arith, c.count_ready-count.ensures c.settle.new.all, c.if-row-count.false) }
