@@ -38,10 +38,10 @@ pub bounds-older-link : goal.bounds-older-link
 bounds-older-link c = omega (arith, c.loop-link.invariant.low, c.requires.filed.sized.older)
 
 pub loop-link-smaller : goal.loop-link-smaller
-loop-link-smaller c = (step (cabinet c.args.upper.now c.args.lower.now c.args.older.now c.args.latest.now) c.requires.filed c.args.asked c.args.from c.loop-link.invariant c.loop-link-test.true c.requires.from (λ i. (c.shared_slice_known-2-1.given i).fits) _ _ c.meet-end.result c.meet-end.ensures c.wide-link-in-loop-link.result c.wide-link-in-loop-link.ensures).0
+loop-link-smaller c = (step (cabinet c.args.upper.now c.args.lower.now c.args.older.now c.args.latest.now) c.requires.filed c.args.asked c.args.from c.loop-link.invariant c.loop-link-test.true c.requires.from (λ i. (c.type_inv.lower i).fits) _ _ c.meet-end.result c.meet-end.ensures c.wide-link-in-loop-link.result c.wide-link-in-loop-link.ensures).0
 
 pub loop-link-preserved : goal.loop-link-preserved
-loop-link-preserved c = (step (cabinet c.args.upper.now c.args.lower.now c.args.older.now c.args.latest.now) c.requires.filed c.args.asked c.args.from c.loop-link.invariant c.loop-link-test.true c.requires.from (λ i. (c.shared_slice_known-2-1.given i).fits) _ _ c.meet-end.result c.meet-end.ensures c.wide-link-in-loop-link.result c.wide-link-in-loop-link.ensures).1
+loop-link-preserved c = (step (cabinet c.args.upper.now c.args.lower.now c.args.older.now c.args.latest.now) c.requires.filed c.args.asked c.args.from c.loop-link.invariant c.loop-link-test.true c.requires.from (λ i. (c.type_inv.lower i).fits) _ _ c.meet-end.result c.meet-end.ensures c.wide-link-in-loop-link.result c.wide-link-in-loop-link.ensures).1
 
 pub shape_of-queue : goal.shape_of-queue
 shape_of-queue c = omega (arith, c.loop-link.invariant.reached.sized, c.requires.reached.sized)

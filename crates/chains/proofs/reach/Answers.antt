@@ -43,4 +43,4 @@ pub shape_of-queue : goal.shape_of-queue
 shape_of-queue c = omega (arith, c.loop-head.invariant.reached.sized, c.requires.queue_len)
 
 pub returns : goal.returns
-returns c = closed c.loop-head.invariant (λ h. omega (arith, h, c.loop-head-test.false)) (λ i. (c.shared_slice_known-2-1.given i).fits)
+returns c = closed c.loop-head.invariant (λ h. omega (arith, h, c.loop-head-test.false)) (λ i. (c.type_inv.lower i).fits)

@@ -84,7 +84,7 @@ pub shape_of-latest-then-met : goal.shape_of-latest-then-met
 shape_of-latest-then-met c = omega (arith, c.loop-many.invariant.holding.filed.sized.latest, c.requires.empty.sized.latest)
 
 pub returns-then-met : goal.returns-then-met
-returns-then-met c = (subst (Stands c.args.bytes.now c.args.key) c.if-met.true (told c.args.bytes.now c.args.key (cabinet c.loop-many.upper c.loop-many.lower c.loop-many.older c.loop-many.latest) c.loop-many.due c.loop-many.ups c.loop-many.many c.loop-many.left c.loop-many.at c.loop-many.links c.loop-many.met c.loop-many.invariant (omega (arith, c.loop-many-test.false)) c.if-at-bytes.false (slice_bytes c.args.bytes.now (λ i. omega (arith, c.shared_slice_known-1.given i))) c.requires.key_nonzero), all_filed c.args.bytes.now c.args.key (cabinet c.loop-many.upper c.loop-many.lower c.loop-many.older c.loop-many.latest) c.loop-many.due c.loop-many.ups c.loop-many.many c.loop-many.left c.loop-many.at c.loop-many.links c.loop-many.met c.loop-many.invariant (omega (arith, c.loop-many-test.false)) c.if-at-bytes.false (slice_bytes c.args.bytes.now (λ i. omega (arith, c.shared_slice_known-1.given i))), up_to c.args.bytes.now c.args.key (cabinet c.loop-many.upper c.loop-many.lower c.loop-many.older c.loop-many.latest) c.loop-many.due c.loop-many.ups c.loop-many.many c.loop-many.left c.loop-many.at c.loop-many.links c.loop-many.met c.loop-many.invariant (omega (arith, c.loop-many-test.false)) c.if-at-bytes.false (slice_bytes c.args.bytes.now (λ i. omega (arith, c.shared_slice_known-1.given i))))
+returns-then-met c = (subst (Stands c.args.bytes.now c.args.key) c.if-met.true (told c.args.bytes.now c.args.key (cabinet c.loop-many.upper c.loop-many.lower c.loop-many.older c.loop-many.latest) c.loop-many.due c.loop-many.ups c.loop-many.many c.loop-many.left c.loop-many.at c.loop-many.links c.loop-many.met c.loop-many.invariant (omega (arith, c.loop-many-test.false)) c.if-at-bytes.false (slice_bytes c.args.bytes.now (λ i. omega (arith, c.type_inv.bytes i))) c.requires.key_nonzero), all_filed c.args.bytes.now c.args.key (cabinet c.loop-many.upper c.loop-many.lower c.loop-many.older c.loop-many.latest) c.loop-many.due c.loop-many.ups c.loop-many.many c.loop-many.left c.loop-many.at c.loop-many.links c.loop-many.met c.loop-many.invariant (omega (arith, c.loop-many-test.false)) c.if-at-bytes.false (slice_bytes c.args.bytes.now (λ i. omega (arith, c.type_inv.bytes i))), up_to c.args.bytes.now c.args.key (cabinet c.loop-many.upper c.loop-many.lower c.loop-many.older c.loop-many.latest) c.loop-many.due c.loop-many.ups c.loop-many.many c.loop-many.left c.loop-many.at c.loop-many.links c.loop-many.met c.loop-many.invariant (omega (arith, c.loop-many-test.false)) c.if-at-bytes.false (slice_bytes c.args.bytes.now (λ i. omega (arith, c.type_inv.bytes i))))
 
 pub shape_of-upper : goal.shape_of-upper
 shape_of-upper c = omega (arith, c.loop-many.invariant.holding.filed.sized.upper, c.requires.empty.sized.upper)
@@ -99,4 +99,4 @@ pub shape_of-latest : goal.shape_of-latest
 shape_of-latest c = omega (arith, c.loop-many.invariant.holding.filed.sized.latest, c.requires.empty.sized.latest)
 
 pub returns : goal.returns
-returns c = subst (Stands c.args.bytes.now c.args.key) c.if-met.false (told c.args.bytes.now c.args.key (cabinet c.loop-many.upper c.loop-many.lower c.loop-many.older c.loop-many.latest) c.loop-many.due c.loop-many.ups c.loop-many.many c.loop-many.left c.loop-many.at c.loop-many.links c.loop-many.met c.loop-many.invariant (omega (arith, c.loop-many-test.false)) c.if-at-bytes.false (slice_bytes c.args.bytes.now (λ i. omega (arith, c.shared_slice_known-1.given i))) c.requires.key_nonzero)
+returns c = subst (Stands c.args.bytes.now c.args.key) c.if-met.false (told c.args.bytes.now c.args.key (cabinet c.loop-many.upper c.loop-many.lower c.loop-many.older c.loop-many.latest) c.loop-many.due c.loop-many.ups c.loop-many.many c.loop-many.left c.loop-many.at c.loop-many.links c.loop-many.met c.loop-many.invariant (omega (arith, c.loop-many-test.false)) c.if-at-bytes.false (slice_bytes c.args.bytes.now (λ i. omega (arith, c.type_inv.bytes i))) c.requires.key_nonzero)

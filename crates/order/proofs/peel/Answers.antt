@@ -33,7 +33,7 @@ pub loop-out-smaller : goal.loop-out-smaller
 loop-out-smaller c = omega (arith, c.loop-out-test.true)
 
 pub loop-out-preserved : goal.loop-out-preserved
-loop-out-preserved c = (c.counters-1.given ∙ c.loop-out.invariant.0, c.tree-in-loop-out-1.given ∙ c.tree-1.given ∙ c.loop-out.invariant.1, length-set c.loop-out.row c.loop-out.out _ ∙ c.loop-out.invariant.2, λ d t. peeled_one d c.args.row.now c.loop-out.row c.loop-out.counters c.loop-out.tree c.loop-out.out (c.loop-out.invariant.3 d t) c.loop-out-test.true c.requires.n_in_bounds c.take-r.result _ c.take-r.ensures _ _ (c.release_all.ensures c.args.keys.now d (c.loop-out.invariant.3 d t).out (taken_out d (c.loop-out.invariant.3 d t).out c.loop-out.counters c.loop-out.tree (c.loop-out.invariant.3 d t).state c.take-r.result _ c.take-r.ensures)))
+loop-out-preserved c = (c.release_all.auto.counters ∙ c.loop-out.invariant.0, c.release_all.auto.tree ∙ c.take-r.auto.tree ∙ c.loop-out.invariant.1, length-set c.loop-out.row c.loop-out.out _ ∙ c.loop-out.invariant.2, λ d t. peeled_one d c.args.row.now c.loop-out.row c.loop-out.counters c.loop-out.tree c.loop-out.out (c.loop-out.invariant.3 d t) c.loop-out-test.true c.requires.n_in_bounds c.take-r.result _ c.take-r.ensures _ _ (c.release_all.ensures c.args.keys.now d (c.loop-out.invariant.3 d t).out (taken_out d (c.loop-out.invariant.3 d t).out c.loop-out.counters c.loop-out.tree (c.loop-out.invariant.3 d t).state c.take-r.result _ c.take-r.ensures)))
 
 pub shape_of-counters : goal.shape_of-counters
 shape_of-counters c = c.loop-out.invariant.0

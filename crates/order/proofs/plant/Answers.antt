@@ -38,7 +38,7 @@ pub build-requires : goal.build-requires
 build-requires c = all_leaves c.args.n c.args.counters.now c.args.tree.now c.loop-r.tree c.loop-r.r c.loop-r.invariant c.loop-r-test.false c.requires.0 c.requires.2 c.requires.3
 
 pub shape_of-tree : goal.shape_of-tree
-shape_of-tree c = c.tree-1.given ∙ c.loop-r.invariant.size
+shape_of-tree c = c.build.auto.tree ∙ c.loop-r.invariant.size
 
 pub returns : goal.returns
 returns c = planted c.args.n c.args.counters.now c.args.tree.now c.loop-r.tree c.loop-r.r c.loop-r.invariant c.loop-r-test.false c.requires.0 c.requires.2 c.requires.3 _ c.build.ensures

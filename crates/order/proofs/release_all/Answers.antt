@@ -34,7 +34,7 @@ pub loop-link-smaller : goal.loop-link-smaller
 loop-link-smaller c = rw c.wide-link-in-loop-link.ensures (next_less c.requires.1 c.requires.2 c.args.r c.loop-link.link c.loop-link.counters c.loop-link.tree (c.loop-link.invariant.2 c.requires.0 c.requires.1 c.requires.2 c.requires.3) c.loop-link-test.true)
 
 pub loop-link-preserved : goal.loop-link-preserved
-loop-link-preserved c = (c.counters-1.given ∙ c.loop-link.invariant.0, c.tree-1.given ∙ c.loop-link.invariant.1, λ keys d out t. released_on d out c.args.r c.loop-link.link c.loop-link.counters c.loop-link.tree (c.loop-link.invariant.2 keys d out t) c.loop-link-test.true c.wide.result c.wide-link-in-loop-link.result c.wide.ensures c.wide-link-in-loop-link.ensures _ _ c.release.ensures)
+loop-link-preserved c = (c.release.auto.counters ∙ c.loop-link.invariant.0, c.release.auto.tree ∙ c.loop-link.invariant.1, λ keys d out t. released_on d out c.args.r c.loop-link.link c.loop-link.counters c.loop-link.tree (c.loop-link.invariant.2 keys d out t) c.loop-link-test.true c.wide.result c.wide-link-in-loop-link.result c.wide.ensures c.wide-link-in-loop-link.ensures _ _ c.release.ensures)
 
 pub shape_of-counters : goal.shape_of-counters
 shape_of-counters c = c.loop-link.invariant.0

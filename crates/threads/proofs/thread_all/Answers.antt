@@ -17,7 +17,7 @@ pub loop-i-smaller : goal.loop-i-smaller
 loop-i-smaller c = omega (arith, c.loop-i-test.true)
 
 pub loop-i-preserved : goal.loop-i-preserved
-loop-i-preserved c = (c.heads-1.given ∙ c.loop-i.invariant.0, c.counters-1.given ∙ c.loop-i.invariant.1, omega (arith, c.loop-i-test.true), row_threaded c.args.marks.now _ c.args.links c.args.upper.now c.args.lower.now c.requires.sortable c.loop-i.i c.loop-i.upper c.loop-i.older c.loop-i.heads c.loop-i.counters c.loop-i.invariant.3 c.loop-i-test.true (omega (arith, c.loop-i.invariant.0, c.requires.ready.heads)) (omega (arith, c.loop-i.invariant.1, c.requires.ready.counters)) _ _ _ _ c.thread.ensures)
+loop-i-preserved c = (c.thread.auto.heads ∙ c.loop-i.invariant.0, c.thread.auto.counters ∙ c.loop-i.invariant.1, omega (arith, c.loop-i-test.true), row_threaded c.args.marks.now _ c.args.links c.args.upper.now c.args.lower.now c.requires.sortable c.loop-i.i c.loop-i.upper c.loop-i.older c.loop-i.heads c.loop-i.counters c.loop-i.invariant.3 c.loop-i-test.true (omega (arith, c.loop-i.invariant.0, c.requires.ready.heads)) (omega (arith, c.loop-i.invariant.1, c.requires.ready.counters)) _ _ _ _ c.thread.ensures)
 
 pub shape_of-upper : goal.shape_of-upper
 shape_of-upper c = c.loop-i.invariant.3.long_ups
