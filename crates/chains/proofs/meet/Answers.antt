@@ -1,7 +1,5 @@
 -- `meet` meets its contract: two tests let a link pass, and otherwise its lower key goes into the set and the queue.
-use native.Mathlib.Omega.{arith}
 use Rattle.chains.specs.Reach.{other, asked, meets}
-use Rattle.keyset.proofs.Sets.{gain_few}
 use Rattle.chains.proofs.meet.Goals as goal
 
 pub returns-then-upper-from : goal.returns-then-upper-from
@@ -9,9 +7,6 @@ returns-then-upper-from c = other c.if-upper-from.true
 
 pub returns-then-lower-asked : goal.returns-then-lower-asked
 returns-then-lower-asked c = asked c.if-lower-asked.true
-
-pub overflow_add-result : goal.overflow_add-result
-overflow_add-result c = omega (arith, gain_few c.add-new.ensures, c.requires.1, c.requires.2)
 
 pub returns : goal.returns
 returns c = meets c.if-upper-from.false c.if-lower-asked.false c.add-new.ensures

@@ -30,17 +30,11 @@ follow-tail-requires-in-loop-head c = record {
   from = next_from c.loop-head.invariant c.loop-head-test.true;
 }
 
-pub overflow_add-head : goal.overflow_add-head
-overflow_add-head c = omega (arith, c.loop-head-test.true, queue_room (cabinet c.args.upper.now c.args.lower.now c.args.older.now c.args.latest.now) c.requires.filed c.loop-head.invariant.reached)
-
 pub loop-head-smaller : goal.loop-head-smaller
 loop-head-smaller c = omega (arith, c.loop-head-test.true, queue_room (cabinet c.args.upper.now c.args.lower.now c.args.older.now c.args.latest.now) c.requires.filed c.loop-head.invariant.reached)
 
 pub loop-head-preserved : goal.loop-head-preserved
 loop-head-preserved c = next_round c.loop-head.invariant c.loop-head-test.true c.follow-tail-in-loop-head.ensures
 
-pub shape_of-queue : goal.shape_of-queue
-shape_of-queue c = omega (arith, c.loop-head.invariant.reached.sized, c.requires.queue_len)
-
 pub returns : goal.returns
-returns c = closed c.loop-head.invariant (λ h. omega (arith, h, c.loop-head-test.false)) (λ i. (c.shared_slice_known-2-1.given i).fits)
+returns c = closed c.loop-head.invariant (λ h. omega (arith, h, c.loop-head-test.false)) (λ i. (c.type_inv.lower i).fits)

@@ -1,7 +1,7 @@
 -- `take_linked` meets its contract: the keys that are reached are put in order, and the record is left without them.
 use native.Mathlib.Omega.{arith}
 use Prim.Native.Nat.{ℕ}
-use Rattle.linked.proofs.Linked.{few, set_whole, sortable, taken_back, too_short}
+use Rattle.linked.proofs.Linked.{set_whole, sortable, taken_back, too_short}
 use Rattle.filing.specs.Cabinet.{cabinet}
 use lib.ListN.{length-replicate}
 use Rattle.keys.proofs.Marks.{holds_none}
@@ -16,20 +16,8 @@ returns-then-row-waits c = too_short c.args.bytes.now c.args.key (cabinet c.args
 pub order-requires : goal.order-requires
 order-requires c = record { sortable = sortable c.args.bytes.now c.args.key (cabinet c.args.upper.now c.args.lower.now c.args.older.now c.args.latest.now) c.args.links c.requires _ c.reach-waits.result c.reach-waits.ensures; older_len = (omega (arith, c.requires.filed.0.sized.older, c.requires.filed.0.sized.upper), omega (arith, c.if-row-waits.false)) }
 
-pub offset_bounds-row-waits : goal.offset_bounds-row-waits
-offset_bounds-row-waits c = omega (arith, few c.args.bytes.now c.args.key (cabinet c.args.upper.now c.args.lower.now c.args.older.now c.args.latest.now) c.args.links c.requires _ c.reach-waits.result c.reach-waits.ensures)
-
-pub bounds-row-waits : goal.bounds-row-waits
-bounds-row-waits c = omega arith
-
-pub add-requires : goal.add-requires
-add-requires c = c.reach-waits.ensures.holds.whole
-
 pub erase-requires : goal.erase-requires
 erase-requires c = record { readable = (c.requires.stands.0, c.requires.stands.1); marks_len = set_whole c.add.ensures c.reach-waits.ensures.holds.whole }
-
-pub overflow_add-result : goal.overflow_add-result
-overflow_add-result c = omega (arith, few c.args.bytes.now c.args.key (cabinet c.args.upper.now c.args.lower.now c.args.older.now c.args.latest.now) c.args.links c.requires _ c.reach-waits.result c.reach-waits.ensures)
 
 pub returns : goal.returns
 returns c = taken_back c.args.bytes.now c.args.key (cabinet c.args.upper.now c.args.lower.now c.args.older.now c.args.latest.now) c.args.links c.requires _ c.reach-waits.result c.reach-waits.ensures c.args.row.now _ c.order.ensures (omega (arith, c.if-row-waits.false)) _ _ c.add.ensures c.ranges.key.fits _ c.erase.ensures

@@ -4,9 +4,6 @@ use mathlib.Core.Path.{refl}
 use mathlib.Core.Logic.{inl, inr}
 use Rattle.order.proofs.leaf.Goals as goal
 
-pub overflow_cast-result : goal.overflow_cast-result
-overflow_cast-result c = omega (arith, c.requires)
-
 pub returns-then-counter-eq0 : goal.returns-then-counter-eq0
 returns-then-counter-eq0 c = inl (c.if-counter-eq0.true, refl)
 

@@ -10,7 +10,7 @@ pub thread_all-requires : goal.thread_all-requires
 thread_all-requires c = record { sortable = ranked_keys c.args.marks.now c.args.n c.args.links c.args.upper.now c.args.lower.now c.requires.sortable; ready = ready c.args.marks.now c.args.n c.args.links c.args.upper.now c.args.lower.now c.requires.sortable _ _ c.fill.ensures c.requires.older_len.0 }
 
 pub peel-requires : goal.peel-requires
-peel-requires c = record { peelable = (scene c.args.marks.now c.args.n c.args.links c.args.upper.now c.args.lower.now c.requires.sortable _ _ c.list.ensures _ _ _ _ _ c.thread_all.ensures c.plant.ensures (omega (arith, room c.args.marks.now c.args.n c.args.links c.args.upper.now c.args.lower.now c.requires.sortable, c.keys-2-1.given)) (omega (arith, room c.args.marks.now c.args.n c.args.links c.args.upper.now c.args.lower.now c.requires.sortable, c.heads-2-1.given)) (omega (arith, room c.args.marks.now c.args.n c.args.links c.args.upper.now c.args.lower.now c.requires.sortable, c.counters-2-1.given)), state c.args.marks.now c.args.n c.args.links c.args.upper.now c.args.lower.now c.requires.sortable _ _ c.list.ensures _ _ _ _ _ c.thread_all.ensures c.plant.ensures (omega (arith, room c.args.marks.now c.args.n c.args.links c.args.upper.now c.args.lower.now c.requires.sortable, c.keys-2-1.given)) (omega (arith, room c.args.marks.now c.args.n c.args.links c.args.upper.now c.args.lower.now c.requires.sortable, c.heads-2-1.given)) (omega (arith, room c.args.marks.now c.args.n c.args.links c.args.upper.now c.args.lower.now c.requires.sortable, c.counters-2-1.given))); n_in_bounds = c.requires.older_len.1 }
+peel-requires c = record { peelable = (scene c.args.marks.now c.args.n c.args.links c.args.upper.now c.args.lower.now c.requires.sortable _ _ c.list.ensures _ _ _ _ _ c.thread_all.ensures c.plant.ensures (omega (arith, room c.args.marks.now c.args.n c.args.links c.args.upper.now c.args.lower.now c.requires.sortable)) (omega (arith, room c.args.marks.now c.args.n c.args.links c.args.upper.now c.args.lower.now c.requires.sortable)) (omega (arith, room c.args.marks.now c.args.n c.args.links c.args.upper.now c.args.lower.now c.requires.sortable)), state c.args.marks.now c.args.n c.args.links c.args.upper.now c.args.lower.now c.requires.sortable _ _ c.list.ensures _ _ _ _ _ c.thread_all.ensures c.plant.ensures (omega (arith, room c.args.marks.now c.args.n c.args.links c.args.upper.now c.args.lower.now c.requires.sortable)) (omega (arith, room c.args.marks.now c.args.n c.args.links c.args.upper.now c.args.lower.now c.requires.sortable)) (omega (arith, room c.args.marks.now c.args.n c.args.links c.args.upper.now c.args.lower.now c.requires.sortable))); n_in_bounds = c.requires.older_len.1 }
 
 pub returns : goal.returns
-returns c = sorted c.args.marks.now c.args.n c.args.links c.args.upper.now c.args.lower.now c.requires.sortable _ _ c.list.ensures _ _ _ _ _ c.thread_all.ensures c.plant.ensures (omega (arith, room c.args.marks.now c.args.n c.args.links c.args.upper.now c.args.lower.now c.requires.sortable, c.keys-2-1.given)) (omega (arith, room c.args.marks.now c.args.n c.args.links c.args.upper.now c.args.lower.now c.requires.sortable, c.heads-2-1.given)) (omega (arith, room c.args.marks.now c.args.n c.args.links c.args.upper.now c.args.lower.now c.requires.sortable, c.counters-2-1.given)) _ _ c.peel.ensures
+returns c = sorted c.args.marks.now c.args.n c.args.links c.args.upper.now c.args.lower.now c.requires.sortable _ _ c.list.ensures _ _ _ _ _ c.thread_all.ensures c.plant.ensures (omega (arith, room c.args.marks.now c.args.n c.args.links c.args.upper.now c.args.lower.now c.requires.sortable)) (omega (arith, room c.args.marks.now c.args.n c.args.links c.args.upper.now c.args.lower.now c.requires.sortable)) (omega (arith, room c.args.marks.now c.args.n c.args.links c.args.upper.now c.args.lower.now c.requires.sortable)) _ _ c.peel.ensures

@@ -1,5 +1,4 @@
 -- `peel` meets its contract: in every scene the least number that is there is that of the next key.
-use native.Mathlib.Omega.{arith}
 use mathlib.Core.Path.{refl, ◌∙◌}
 use Rattle.order.proofs.Peeling.{peeled_all, peeled_none, peeled_one, some_free, some_left, taken_out}
 use lib.ListN.{length-set}
@@ -11,38 +10,11 @@ loop-out-init c = (refl, refl, refl, λ d t. peeled_none d c.args.row.now c.args
 pub take-r-requires : goal.take-r-requires
 take-r-requires c = record { board = (c.loop-out.invariant.3 c.requires.peelable.0 c.requires.peelable.1).state.board; some = some_free c.requires.peelable.0 (c.loop-out.invariant.3 c.requires.peelable.0 c.requires.peelable.1).out c.loop-out.counters c.loop-out.tree (c.loop-out.invariant.3 c.requires.peelable.0 c.requires.peelable.1).state (some_left c.requires.peelable.0 c.args.row.now c.loop-out.row c.loop-out.counters c.loop-out.tree c.loop-out.out (c.loop-out.invariant.3 c.requires.peelable.0 c.requires.peelable.1) c.loop-out-test.true) }
 
-pub offset_bounds-keys-r : goal.offset_bounds-keys-r
-offset_bounds-keys-r c = omega (arith, c.take-r.ensures.number, c.requires.peelable.0.few)
-
-pub bounds-keys-r : goal.bounds-keys-r
-bounds-keys-r c = omega (arith, c.take-r.ensures.number, c.requires.peelable.0.long_keys)
-
-pub offset_bounds-row-out : goal.offset_bounds-row-out
-offset_bounds-row-out c = omega (arith, c.loop-out-test.true, c.requires.peelable.0.few)
-
-pub bounds-row-out : goal.bounds-row-out
-bounds-row-out c = omega (arith, c.loop-out-test.true, c.loop-out.invariant.2, c.requires.n_in_bounds)
-
 pub release_all-requires : goal.release_all-requires
 release_all-requires c = (c.args.keys.now, c.requires.peelable.0, (c.loop-out.invariant.3 c.requires.peelable.0 c.requires.peelable.1).out, taken_out c.requires.peelable.0 (c.loop-out.invariant.3 c.requires.peelable.0 c.requires.peelable.1).out c.loop-out.counters c.loop-out.tree (c.loop-out.invariant.3 c.requires.peelable.0 c.requires.peelable.1).state c.take-r.result _ c.take-r.ensures)
 
-pub overflow_add-out : goal.overflow_add-out
-overflow_add-out c = omega (arith, c.loop-out-test.true, c.requires.peelable.0.few)
-
-pub loop-out-smaller : goal.loop-out-smaller
-loop-out-smaller c = omega (arith, c.loop-out-test.true)
-
 pub loop-out-preserved : goal.loop-out-preserved
-loop-out-preserved c = (c.counters-1.given ∙ c.loop-out.invariant.0, c.tree-in-loop-out-1.given ∙ c.tree-1.given ∙ c.loop-out.invariant.1, length-set c.loop-out.row c.loop-out.out _ ∙ c.loop-out.invariant.2, λ d t. peeled_one d c.args.row.now c.loop-out.row c.loop-out.counters c.loop-out.tree c.loop-out.out (c.loop-out.invariant.3 d t) c.loop-out-test.true c.requires.n_in_bounds c.take-r.result _ c.take-r.ensures _ _ (c.release_all.ensures c.args.keys.now d (c.loop-out.invariant.3 d t).out (taken_out d (c.loop-out.invariant.3 d t).out c.loop-out.counters c.loop-out.tree (c.loop-out.invariant.3 d t).state c.take-r.result _ c.take-r.ensures)))
-
-pub shape_of-counters : goal.shape_of-counters
-shape_of-counters c = c.loop-out.invariant.0
-
-pub shape_of-tree : goal.shape_of-tree
-shape_of-tree c = c.loop-out.invariant.1
-
-pub shape_of-row : goal.shape_of-row
-shape_of-row c = c.loop-out.invariant.2
+loop-out-preserved c = (c.release_all.auto.counters ∙ c.loop-out.invariant.0, c.release_all.auto.tree ∙ c.take-r.auto.tree ∙ c.loop-out.invariant.1, length-set c.loop-out.row c.loop-out.out _ ∙ c.loop-out.invariant.2, λ d t. peeled_one d c.args.row.now c.loop-out.row c.loop-out.counters c.loop-out.tree c.loop-out.out (c.loop-out.invariant.3 d t) c.loop-out-test.true c.requires.n_in_bounds c.take-r.result _ c.take-r.ensures _ _ (c.release_all.ensures c.args.keys.now d (c.loop-out.invariant.3 d t).out (taken_out d (c.loop-out.invariant.3 d t).out c.loop-out.counters c.loop-out.tree (c.loop-out.invariant.3 d t).state c.take-r.result _ c.take-r.ensures)))
 
 pub returns : goal.returns
 returns c = λ d t. peeled_all d c.args.row.now c.loop-out.row c.loop-out.counters c.loop-out.tree c.loop-out.out (c.loop-out.invariant.3 d t) c.loop-out-test.false

@@ -3,9 +3,6 @@ use native.Mathlib.Omega.{arith}
 use Rattle.order.proofs.Releasing.{release_came, release_fell}
 use Rattle.order.proofs.release.Goals as goal
 
-pub overflow_sub-left : goal.overflow_sub-left
-overflow_sub-left c = omega (arith, c.requires.u_lt_n.2)
-
 pub put-requires : goal.put-requires
 put-requires c = record { board = c.requires.board; k_lt_n = (c.requires.u_lt_n.0, c.requires.u_lt_n.3) }
 

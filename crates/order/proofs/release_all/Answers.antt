@@ -6,41 +6,17 @@ use Rattle.order.proofs.Releasing.{next_less, released_all, released_on, upper_a
 use Rattle.order.specs.Steps.{Taken}
 use Rattle.order.proofs.release_all.Goals as goal
 
-pub offset_bounds-heads-r : goal.offset_bounds-heads-r
-offset_bounds-heads-r c = omega (arith, c.requires.3.number, c.requires.1.few)
-
-pub bounds-heads-r : goal.bounds-heads-r
-bounds-heads-r c = omega (arith, c.requires.3.number, c.requires.1.long_heads)
-
 pub loop-link-init : goal.loop-link-init
 loop-link-init c = (refl, refl, λ keys d out t. subst (λ (i : ℕ). Taken d out c.args.r i c.args.counters.now c.args.tree.now) (sym c.wide-link.ensures) t)
 
-pub offset_bounds-upper-link : goal.offset_bounds-upper-link
-offset_bounds-upper-link c = omega (arith, (c.loop-link.invariant.2 c.requires.0 c.requires.1 c.requires.2 c.requires.3).low, c.requires.1.rows)
-
-pub bounds-upper-link : goal.bounds-upper-link
-bounds-upper-link c = omega (arith, (c.loop-link.invariant.2 c.requires.0 c.requires.1 c.requires.2 c.requires.3).low, c.requires.1.long_ups)
-
 pub release-requires : goal.release-requires
 release-requires c = record { board = (c.loop-link.invariant.2 c.requires.0 c.requires.1 c.requires.2 c.requires.3).board; u_lt_n = (rw c.wide.ensures (upper_number c.requires.1 c.requires.2 c.args.r c.loop-link.link c.loop-link.counters c.loop-link.tree (c.loop-link.invariant.2 c.requires.0 c.requires.1 c.requires.2 c.requires.3) c.loop-link-test.true), (c.loop-link.invariant.2 c.requires.0 c.requires.1 c.requires.2 c.requires.3).long, rw c.wide.ensures (upper_counted c.requires.1 c.requires.2 c.args.r c.loop-link.link c.loop-link.counters c.loop-link.tree (c.loop-link.invariant.2 c.requires.0 c.requires.1 c.requires.2 c.requires.3) c.loop-link-test.true), rw c.wide.ensures (upper_absent c.requires.1 c.requires.2 c.args.r c.loop-link.link c.loop-link.counters c.loop-link.tree (c.loop-link.invariant.2 c.requires.0 c.requires.1 c.requires.2 c.requires.3) c.loop-link-test.true)) }
-
-pub offset_bounds-older-link : goal.offset_bounds-older-link
-offset_bounds-older-link c = omega (arith, (c.loop-link.invariant.2 c.requires.0 c.requires.1 c.requires.2 c.requires.3).low, c.requires.1.rows)
-
-pub bounds-older-link : goal.bounds-older-link
-bounds-older-link c = omega (arith, (c.loop-link.invariant.2 c.requires.0 c.requires.1 c.requires.2 c.requires.3).low, c.requires.1.long_olds)
 
 pub loop-link-smaller : goal.loop-link-smaller
 loop-link-smaller c = rw c.wide-link-in-loop-link.ensures (next_less c.requires.1 c.requires.2 c.args.r c.loop-link.link c.loop-link.counters c.loop-link.tree (c.loop-link.invariant.2 c.requires.0 c.requires.1 c.requires.2 c.requires.3) c.loop-link-test.true)
 
 pub loop-link-preserved : goal.loop-link-preserved
-loop-link-preserved c = (c.counters-1.given ∙ c.loop-link.invariant.0, c.tree-1.given ∙ c.loop-link.invariant.1, λ keys d out t. released_on d out c.args.r c.loop-link.link c.loop-link.counters c.loop-link.tree (c.loop-link.invariant.2 keys d out t) c.loop-link-test.true c.wide.result c.wide-link-in-loop-link.result c.wide.ensures c.wide-link-in-loop-link.ensures _ _ c.release.ensures)
-
-pub shape_of-counters : goal.shape_of-counters
-shape_of-counters c = c.loop-link.invariant.0
-
-pub shape_of-tree : goal.shape_of-tree
-shape_of-tree c = c.loop-link.invariant.1
+loop-link-preserved c = (c.release.auto.counters ∙ c.loop-link.invariant.0, c.release.auto.tree ∙ c.loop-link.invariant.1, λ keys d out t. released_on d out c.args.r c.loop-link.link c.loop-link.counters c.loop-link.tree (c.loop-link.invariant.2 keys d out t) c.loop-link-test.true c.wide.result c.wide-link-in-loop-link.result c.wide.ensures c.wide-link-in-loop-link.ensures _ _ c.release.ensures)
 
 pub returns : goal.returns
 returns c = λ keys d out t. released_all d out c.args.r c.loop-link.link c.loop-link.counters c.loop-link.tree (c.loop-link.invariant.2 keys d out t) (omega (arith, c.loop-link-test.false))

@@ -10,26 +10,8 @@ loop-i-init c = (refl, refl, omega arith, threaded_none c.args.marks.now _ c.arg
 pub thread-requires : goal.thread-requires
 thread-requires c = threadable c.args.marks.now _ c.args.links c.args.upper.now c.args.lower.now c.requires.sortable c.loop-i.i c.loop-i.upper c.loop-i.older c.loop-i.heads c.loop-i.counters c.loop-i.invariant.3 c.args.base.now c.requires.ready.ranked c.loop-i-test.true (omega (arith, c.loop-i.invariant.0, c.requires.ready.heads)) (omega (arith, c.loop-i.invariant.1, c.requires.ready.counters))
 
-pub overflow_add-i : goal.overflow_add-i
-overflow_add-i c = omega (arith, c.loop-i-test.true, c.requires.sortable.last)
-
-pub loop-i-smaller : goal.loop-i-smaller
-loop-i-smaller c = omega (arith, c.loop-i-test.true)
-
 pub loop-i-preserved : goal.loop-i-preserved
-loop-i-preserved c = (c.heads-1.given ∙ c.loop-i.invariant.0, c.counters-1.given ∙ c.loop-i.invariant.1, omega (arith, c.loop-i-test.true), row_threaded c.args.marks.now _ c.args.links c.args.upper.now c.args.lower.now c.requires.sortable c.loop-i.i c.loop-i.upper c.loop-i.older c.loop-i.heads c.loop-i.counters c.loop-i.invariant.3 c.loop-i-test.true (omega (arith, c.loop-i.invariant.0, c.requires.ready.heads)) (omega (arith, c.loop-i.invariant.1, c.requires.ready.counters)) _ _ _ _ c.thread.ensures)
-
-pub shape_of-upper : goal.shape_of-upper
-shape_of-upper c = c.loop-i.invariant.3.long_ups
-
-pub shape_of-older : goal.shape_of-older
-shape_of-older c = omega (arith, c.loop-i.invariant.3.long_olds, c.requires.ready.older)
-
-pub shape_of-heads : goal.shape_of-heads
-shape_of-heads c = c.loop-i.invariant.0
-
-pub shape_of-counters : goal.shape_of-counters
-shape_of-counters c = c.loop-i.invariant.1
+loop-i-preserved c = (c.thread.auto.heads ∙ c.loop-i.invariant.0, c.thread.auto.counters ∙ c.loop-i.invariant.1, omega (arith, c.loop-i-test.true), row_threaded c.args.marks.now _ c.args.links c.args.upper.now c.args.lower.now c.requires.sortable c.loop-i.i c.loop-i.upper c.loop-i.older c.loop-i.heads c.loop-i.counters c.loop-i.invariant.3 c.loop-i-test.true (omega (arith, c.loop-i.invariant.0, c.requires.ready.heads)) (omega (arith, c.loop-i.invariant.1, c.requires.ready.counters)) _ _ _ _ c.thread.ensures)
 
 pub returns : goal.returns
 returns c = all_threaded c.args.marks.now _ c.args.links c.args.upper.now c.args.lower.now c.requires.sortable c.loop-i.i c.loop-i.upper c.loop-i.older c.loop-i.heads c.loop-i.counters c.loop-i.invariant.3 (omega (arith, c.loop-i-test.false)) c.loop-i.invariant.2
