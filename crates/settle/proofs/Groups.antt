@@ -173,7 +173,7 @@ fresh : (rs : List Last) (k c st j : ℕ) → 0 < c → st ≡ capped c → Stan
 fresh rs k zero st j h e = absurd (omega arith)
 fresh rs k (suc zero) st j h e = let q : st ≡ 1 = e ∙ capped_low 1 (omega arith) in rw q once
 fresh rs k (suc (suc zero)) st j h e = let q : st ≡ 2 = e ∙ capped_low 2 (omega arith) in rw q twice
-fresh rs k (suc (suc (suc c))) st j h e = let q : st ≡ 3 = e ∙ capped_high (suc (suc (suc c))) (omega arith) in rw q (never (λ y r. omega (arith, ready_count (suc (suc (suc c))) y r)))
+fresh rs k (suc (suc (suc c))) st j h e = let q : st ≡ 3 = e ∙ capped_high (suc (suc (suc c))) (omega arith) in rw q (never {c = suc (suc (suc c))} {x = []} (λ y r. omega (arith, ready_count (suc (suc (suc c))) y r)))
 
 times_some : (k : Key) (x : List Key) → In k x → 0 < times k x
 unfolding times
