@@ -11,13 +11,13 @@ pub loop-link-init : goal.loop-link-init
 loop-link-init c = set_out (cabinet c.args.upper.now c.args.lower.now c.args.older.now c.args.latest.now) c.requires.filed c.args.asked c.args.from c.requires.reached c.wide-link.result (c.wide-link.ensures ∙ ap (λ (i : ℕ). get_or c.args.latest.now i 0) c.drawer.ensures)
 
 pub meet-end-requires : goal.meet-end-requires
-meet-end-requires c = (c.loop-link.invariant.reached.holds.whole, room (cabinet c.args.upper.now c.args.lower.now c.args.older.now c.args.latest.now) c.requires.filed c.args.asked c.args.from c.loop-link.invariant, c.loop-link.invariant.reached.sized)
+meet-end-requires c = (c.loop-link.invariant.reached.holds.whole, room _ c.requires.filed _ _ c.loop-link.invariant, c.loop-link.invariant.reached.sized)
 
 pub loop-link-smaller : goal.loop-link-smaller
-loop-link-smaller c = (step (cabinet c.args.upper.now c.args.lower.now c.args.older.now c.args.latest.now) c.requires.filed c.args.asked c.args.from c.loop-link.invariant c.loop-link-test.true c.requires.from (λ i. (c.type_inv.lower i).fits) _ _ c.meet-end.result c.meet-end.ensures c.wide-link-in-loop-link.result c.wide-link-in-loop-link.ensures).0
+loop-link-smaller c = (step _ c.requires.filed _ _ c.loop-link.invariant c.loop-link-test.true c.requires.from (λ i. (c.type_inv.lower i).fits) _ _ c.meet-end.result c.meet-end.ensures c.wide-link-in-loop-link.result c.wide-link-in-loop-link.ensures).0
 
 pub loop-link-preserved : goal.loop-link-preserved
-loop-link-preserved c = (step (cabinet c.args.upper.now c.args.lower.now c.args.older.now c.args.latest.now) c.requires.filed c.args.asked c.args.from c.loop-link.invariant c.loop-link-test.true c.requires.from (λ i. (c.type_inv.lower i).fits) _ _ c.meet-end.result c.meet-end.ensures c.wide-link-in-loop-link.result c.wide-link-in-loop-link.ensures).1
+loop-link-preserved c = (step _ c.requires.filed _ _ c.loop-link.invariant c.loop-link-test.true c.requires.from (λ i. (c.type_inv.lower i).fits) _ _ c.meet-end.result c.meet-end.ensures c.wide-link-in-loop-link.result c.wide-link-in-loop-link.ensures).1
 
 pub returns : goal.returns
-returns c = walked (cabinet c.args.upper.now c.args.lower.now c.args.older.now c.args.latest.now) c.requires.filed c.args.asked c.args.from c.loop-link.invariant (λ h. omega (arith, c.loop-link-test.false))
+returns c = walked _ c.requires.filed _ _ c.loop-link.invariant (λ h. omega (arith, c.loop-link-test.false))

@@ -18,10 +18,10 @@ pub loop-head-init : goal.loop-head-init
 loop-head-init c = first_round c.follow-tail.ensures
 
 pub offset_bounds-queue-head : goal.offset_bounds-queue-head
-offset_bounds-queue-head c = omega (arith, c.loop-head-test.true, queue_room (cabinet c.args.upper.now c.args.lower.now c.args.older.now c.args.latest.now) c.requires.filed c.loop-head.invariant.reached)
+offset_bounds-queue-head c = omega (arith, c.loop-head-test.true, queue_room _ c.requires.filed c.loop-head.invariant.reached)
 
 pub bounds-queue-head : goal.bounds-queue-head
-bounds-queue-head c = omega (arith, c.loop-head-test.true, queue_room (cabinet c.args.upper.now c.args.lower.now c.args.older.now c.args.latest.now) c.requires.filed c.loop-head.invariant.reached, c.loop-head.invariant.reached.sized)
+bounds-queue-head c = omega (arith, c.loop-head-test.true, queue_room _ c.requires.filed c.loop-head.invariant.reached, c.loop-head.invariant.reached.sized)
 
 pub follow-tail-requires-in-loop-head : goal.follow-tail-requires-in-loop-head
 follow-tail-requires-in-loop-head c = record {
@@ -31,7 +31,7 @@ follow-tail-requires-in-loop-head c = record {
 }
 
 pub loop-head-smaller : goal.loop-head-smaller
-loop-head-smaller c = omega (arith, c.loop-head-test.true, queue_room (cabinet c.args.upper.now c.args.lower.now c.args.older.now c.args.latest.now) c.requires.filed c.loop-head.invariant.reached)
+loop-head-smaller c = omega (arith, c.loop-head-test.true, queue_room _ c.requires.filed c.loop-head.invariant.reached)
 
 pub loop-head-preserved : goal.loop-head-preserved
 loop-head-preserved c = next_round c.loop-head.invariant c.loop-head-test.true c.follow-tail-in-loop-head.ensures
