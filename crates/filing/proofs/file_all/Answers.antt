@@ -21,10 +21,18 @@ pub key_at-here-requires : goal.key_at-here-requires
 key_at-here-requires c = let n = pass_good _ _ _ _ _ _ c.pass_node.ensures _ _ _ c.in-Node.is in (n.inside, key_inside n.good)
 
 pub file-links-requires : goal.file-links-requires
-file-links-requires c = record { sized = c.loop-many.invariant.holding.filed.sized; links_lt_node_limit = link_room _ _ _ _ _ _ _ _ _ _ c.loop-many.invariant c.loop-many-test.true _ _ _ _ (pass_good _ _ _ _ _ _ c.pass_node.ensures _ _ _ c.in-Node.is) }
+file-links-requires c = record {
+  sized = c.loop-many.invariant.holding.filed.sized;
+  links_lt_node_limit = link_room _ _ _ _ _ _ _ _ _ _ c.loop-many.invariant c.loop-many-test.true _ _ _ _ (pass_good _ _ _ _ _ _ c.pass_node.ensures _ _ _ c.in-Node.is);
+}
 
 pub push-many-requires : goal.push-many-requires
-push-many-requires c = let n = pass_good _ _ _ _ _ _ c.pass_node.ensures _ _ _ c.in-Node.is in (c.loop-many-test.true, stack_room _ _ _ _ _ _ _ _ _ _ c.loop-many.invariant c.loop-many-test.true _ _ _ _ n, children_few _ _ _ _ _ _ _ _ _ _ c.loop-many.invariant c.loop-many-test.true _ _ _ _ n)
+push-many-requires c =
+    let n = pass_good _ _ _ _ _ _ c.pass_node.ensures _ _ _ c.in-Node.is in (
+      c.loop-many-test.true,
+      stack_room _ _ _ _ _ _ _ _ _ _ c.loop-many.invariant c.loop-many-test.true _ _ _ _ n,
+      children_few _ _ _ _ _ _ _ _ _ _ c.loop-many.invariant c.loop-many-test.true _ _ _ _ n,
+    )
 
 pub loop-many-preserved : goal.loop-many-preserved
 loop-many-preserved c = onward _ _ _ _ _ _ _ _ _ _ c.loop-many.invariant c.loop-many-test.true _ _ _ _ (pass_good _ _ _ _ _ _ c.pass_node.ensures _ _ _ c.in-Node.is) c.requires.key_nonzero c.key_at-here.result c.key_at-here.ensures _ refl _ _ c.file-links.ensures c.met_by-met.result c.met_by-met.ensures c.below.result c.below.ensures _ _ c.push-many.ensures
@@ -33,7 +41,13 @@ pub returns-then-at-bytes : goal.returns-then-at-bytes
 returns-then-at-bytes c = more_bytes c.args.bytes.now c.loop-many.due c.loop-many.many c.loop-many.left c.loop-many.at c.loop-many.invariant.remains (omega (arith, c.loop-many-test.false)) c.if-at-bytes.true
 
 pub returns-then-met : goal.returns-then-met
-returns-then-met c = let b = slice_bytes c.args.bytes.now (λ i. omega (arith, c.type_inv.bytes i)) in let none : c.loop-many.many ≡ 0 = omega (arith, c.loop-many-test.false) in (subst (Stands c.args.bytes.now c.args.key) c.if-met.true (told _ _ _ _ _ _ _ _ _ _ c.loop-many.invariant none c.if-at-bytes.false b c.requires.key_nonzero), all_filed _ _ _ _ _ _ _ _ _ _ c.loop-many.invariant none c.if-at-bytes.false b, up_to _ _ _ _ _ _ _ _ _ _ c.loop-many.invariant none c.if-at-bytes.false b)
+returns-then-met c =
+    let b = slice_bytes c.args.bytes.now (λ i. omega (arith, c.type_inv.bytes i)) in
+    let none : c.loop-many.many ≡ 0 = omega (arith, c.loop-many-test.false) in (
+      subst (Stands c.args.bytes.now c.args.key) c.if-met.true (told _ _ _ _ _ _ _ _ _ _ c.loop-many.invariant none c.if-at-bytes.false b c.requires.key_nonzero),
+      all_filed _ _ _ _ _ _ _ _ _ _ c.loop-many.invariant none c.if-at-bytes.false b,
+      up_to _ _ _ _ _ _ _ _ _ _ c.loop-many.invariant none c.if-at-bytes.false b,
+    )
 
 pub returns : goal.returns
 returns c = subst (Stands c.args.bytes.now c.args.key) c.if-met.false (told _ _ _ _ _ _ _ _ _ _ c.loop-many.invariant (omega (arith, c.loop-many-test.false)) c.if-at-bytes.false (slice_bytes c.args.bytes.now (λ i. omega (arith, c.type_inv.bytes i))) c.requires.key_nonzero)

@@ -6,4 +6,8 @@ use Rattle.reader.proofs.Stack.{pushed}
 use Rattle.filing.proofs.push.Goals as goal
 
 pub returns : goal.returns
-returns c = record { long = simp length-set; high = refl; stack = λ u us e. pushed c.args.many c.args.stack.now u us e c.args.value (omega (arith, c.requires.1)) c.requires.1 c.args.children c.requires.2 }
+returns c = record {
+  long = simp length-set;
+  high = refl;
+  stack = λ u us e. pushed c.args.many c.args.stack.now u us e c.args.value (omega (arith, c.requires.1)) c.requires.1 c.args.children c.requires.2;
+}

@@ -13,10 +13,16 @@ pub returns-then-row-waits : goal.returns-then-row-waits
 returns-then-row-waits c = too_short _ _ _ _ c.requires _ _ c.reach-waits.ensures c.ranges.key.fits c.args.row.now c.if-row-waits.true
 
 pub order-requires : goal.order-requires
-order-requires c = record { sortable = sortable _ _ _ _ c.requires _ _ c.reach-waits.ensures; older_len = (omega (arith, c.requires.filed.0.sized.older, c.requires.filed.0.sized.upper), omega (arith, c.if-row-waits.false)) }
+order-requires c = record {
+  sortable = sortable _ _ _ _ c.requires _ _ c.reach-waits.ensures;
+  older_len = (omega (arith, c.requires.filed.0.sized.older, c.requires.filed.0.sized.upper), omega (arith, c.if-row-waits.false));
+}
 
 pub erase-requires : goal.erase-requires
-erase-requires c = record { readable = (c.requires.stands.0, c.requires.stands.1); marks_len = set_whole c.add.ensures c.reach-waits.ensures.holds.whole }
+erase-requires c = record {
+  readable = (c.requires.stands.0, c.requires.stands.1);
+  marks_len = set_whole c.add.ensures c.reach-waits.ensures.holds.whole;
+}
 
 pub returns : goal.returns
 returns c = taken_back _ _ _ _ c.requires _ _ c.reach-waits.ensures c.args.row.now _ c.order.ensures (omega (arith, c.if-row-waits.false)) _ _ c.add.ensures c.ranges.key.fits _ c.erase.ensures

@@ -7,7 +7,10 @@ pub file_all-requires : goal.file_all-requires
 file_all-requires c = record { key_nonzero = c.requires; empty = empty }
 
 pub list_reached-requires : goal.list_reached-requires
-list_reached-requires c = record { filed = (key_stands c.args.bytes.now c.args.key _ c.file_all.result c.file_all.ensures _ c.in-Standing.is).1.0; to_keys = to_keys_lem c.args.bytes.now _ (key_stands c.args.bytes.now c.args.key _ c.file_all.result c.file_all.ensures _ c.in-Standing.is).1 }
+list_reached-requires c = record {
+  filed = (key_stands c.args.bytes.now c.args.key _ c.file_all.result c.file_all.ensures _ c.in-Standing.is).1.0;
+  to_keys = to_keys_lem c.args.bytes.now _ (key_stands c.args.bytes.now c.args.key _ c.file_all.result c.file_all.ensures _ c.in-Standing.is).1;
+}
 
 pub returns-in-Refused : goal.returns-in-Refused
 returns-in-Refused c = bytes_refused c.args.bytes.now c.args.key _ c.file_all.result c.file_all.ensures _ c.in-Refused.is c.args.row.now
