@@ -21,7 +21,9 @@ use Rattle.keyset.proofs.Sets.{gain_few, added_same, added_other}
 use Rattle.keys.specs.Gather.{Holds}
 use Rattle.keys.proofs.Marks.{put_in}
 use Rattle.keys.proofs.Distinct.{snoc, snoc_last}
-use Rattle.filing.specs.Cabinet.{Cabinet, Link, Filed}
+use Rattle.filing.specs.declared.Cabinet.{Cabinet}
+use Rattle.filing.specs.Cabinet.{Link, Filed}
+use Rattle.chains.specs.declared.Queue.{Queue}
 use Rattle.chains.specs.Reach.{Meets, other, asked, meets, Reached, From, Within}
 
 -- a list whose numbers all stand in another has no more different ones than that is long
@@ -68,7 +70,7 @@ module _ (x : Cabinet) (F : Filed x) where
           place i p = let e : 1 + (i - 1) ≡ i = omega arith in get_or-drop 1 x.lower (i - 1) 0 ∙ ap (λ (j : ℕ). get_or x.lower j 0) e
 
   -- the queue is never full
-  pub queue_room : {m : Key} {marks queue : List ℕ} {tail : ℕ} → Reached x m marks queue tail → tail < suc node_limit
+  pub queue_room : {m : Key} {s : List ℕ} {q : Queue} → Reached x m s q → q.many < suc node_limit
   queue_room R = omega (
     arith,
     R.count,
@@ -87,12 +89,12 @@ within_added marks k h j e = pick (ℕ_discrete j k)
 
 module _ (x : Cabinet) (m from : Key) (w : From x m from) (u k : Key) (small : k < 65536) (i : ℕ) (p : 0 < get_or x.upper i 0) (e : u ≡ get_or x.upper i 0) (f : k ≡ get_or x.lower i 0) where
   -- what one look at a link does: the same queue in front, at least as many keys, and the link is done with
-  pub record Looked (marks queue : List ℕ) (tail : ℕ) (marks' queue' : List ℕ) (r : ℕ) : Type 0 where
-    pub reached : Reached x m marks' queue' r
-    pub grown : Within marks marks'
-    pub kept : (j : ℕ) → j < tail → get_or queue' j 0 ≡ get_or queue j 0
-    pub longer : tail ≤ r
-    pub done : u ≡ from → (k ≡ m) ⊎ (member marks' k ≡ true)
+  pub record Looked (s : List ℕ) (q : Queue) (s' : List ℕ) (q' : Queue) : Type 0 where
+    pub reached : Reached x m s' q'
+    pub grown : Within s s'
+    pub kept : (j : ℕ) → j < q.many → get_or q'.keys j 0 ≡ get_or q.keys j 0
+    pub longer : q.many ≤ q'.many
+    pub done : u ≡ from → (k ≡ m) ⊎ (member s' k ≡ true)
 
   chained : u ≡ from → Chain (Link x) m k
   chained q = ⊎_elim (λ z. one (rw z at link)) (λ c. more c link) w
@@ -100,40 +102,40 @@ module _ (x : Cabinet) (m from : Key) (w : From x m from) (u k : Key) (small : k
       link : Link x from k
       link = (i, rw (← q, e) p, rw (← q) (sym e), sym f)
 
-  pub looked : {marks queue marks' queue' : List ℕ} {tail r : ℕ} → tail < length queue → Reached x m marks queue tail → Meets u k from m marks queue tail marks' queue' r
-      → Looked marks queue tail marks' queue' r
+  pub looked : {s : List ℕ} {q : Queue} {s' : List ℕ} {q' : Queue} → q.many < length q.keys → Reached x m s q → Meets u k from m s q s' q' → Looked s q s' q'
   looked g R (other n) = record { reached = R; grown = λ j z. z; kept = λ j h. refl; longer = omega arith; done = λ q. absurd (n q) }
   looked g R (asked z) = record { reached = R; grown = λ j z. z; kept = λ j h. refl; longer = omega arith; done = λ q. inl z }
-  looked {marks} {queue} {marks'} {tail = tail} g R (meets {n = n} q z A) = record {
+  looked {s} {q} {s'} g R (meets {n = n} e' z A) = record {
     reached = record {
       keys = snoc R.keys k;
       holds = held.0;
       count = omega (arith, held.1, R.count);
-      led = λ j h. ⊎_elim (R.led j) (λ h. ⊎_elim (λ y. rw y (z, chained q)) (λ y. absurd y) h) (in_either j R.keys (k ∷ []) h);
-      found = λ j h. ⊎_elim (at_old j) (λ h. ⊎_elim (λ y. rw y (at_new (member marks k) refl)) (λ y. absurd y) h) (in_either j R.keys (k ∷ []) h);
-      queued = λ j h. queued j h (dec_lt j tail);
+      small = λ j h. ⊎_elim (R.small j) (λ h. ⊎_elim (λ y. rw y small) (λ y. absurd y) h) (in_either j R.keys (k ∷ []) h);
+      led = λ j h. ⊎_elim (R.led j) (λ h. ⊎_elim (λ y. rw y (z, chained e')) (λ y. absurd y) h) (in_either j R.keys (k ∷ []) h);
+      found = λ j h. ⊎_elim (at_old j) (λ h. ⊎_elim (λ y. rw y (at_new (member s k) refl)) (λ y. absurd y) h) (in_either j R.keys (k ∷ []) h);
+      queued = λ j h. queued j h (dec_lt j q.many);
       sized = rw length-set R.sized;
     };
-    grown = rw A.result (within_added marks k room);
-    kept = λ j h. get_or-set_other queue tail j k 0 (λ y. omega arith);
+    grown = rw A.result (within_added s k room);
+    kept = λ j h. get_or-set_other q.keys q.many j k 0 (λ y. omega arith);
     longer = omega arith;
-    done = λ y. inr (rw A.result (added_same marks k room));
+    done = λ y. inr (rw A.result (added_same s k room));
   }
     where
-      room : k < length marks * 8
+      room : k < length s * 8
       room = omega (arith, R.holds.whole)
 
-      held : Holds marks' (snoc R.keys k) × (distinct (snoc R.keys k) ≡ distinct R.keys + n)
-      held = put_in marks k small marks' n A R.keys R.holds
+      held : Holds s' (snoc R.keys k) × (distinct (snoc R.keys k) ≡ distinct R.keys + n)
+      held = put_in s k small s' n A R.keys R.holds
 
-      at_old : (j : Key) → In j R.keys → (y : ℕ) × (y < tail + n) × (get_or (set queue tail k) y 0 ≡ j)
-      at_old j h = let v = R.found j h in (v.0, omega (arith, v.1), get_or-set_other queue tail v.0 k 0 (λ y. omega (arith, v.1)) ∙ v.2)
+      at_old : (j : Key) → In j R.keys → (y : ℕ) × (y < q.many + n) × (get_or (set q.keys q.many k) y 0 ≡ j)
+      at_old j h = let v = R.found j h in (v.0, omega (arith, v.1), get_or-set_other q.keys q.many v.0 k 0 (λ y. omega (arith, v.1)) ∙ v.2)
 
       -- a key that is in the set already stands in the queue already
-      at_new : (b : Bool) → member marks k ≡ b → (y : ℕ) × (y < tail + n) × (get_or (set queue tail k) y 0 ≡ k)
+      at_new : (b : Bool) → member s k ≡ b → (y : ℕ) × (y < q.many + n) × (get_or (set q.keys q.many k) y 0 ≡ k)
       at_new true y = at_old k ((R.holds.exact k small).0 y)
-      at_new false y = (tail, omega (arith, A.gain ∙ ap (λ (b : Bool). cond b 0 1) y), get_or-set_same queue tail k 0 g)
+      at_new false y = (q.many, omega (arith, A.gain ∙ ap (λ (b : Bool). cond b 0 1) y), get_or-set_same q.keys q.many k 0 g)
 
-      queued : (j : ℕ) → j < tail + n → Dec (j < tail) → In (get_or (set queue tail k) j 0) (snoc R.keys k)
-      queued j h (yes v) = rw (get_or-set_other queue tail j k 0 (λ y. omega (arith, v))) (in_left _ R.keys (k ∷ []) (R.queued j v))
-      queued j h (no y) = let v : j ≡ tail = omega (arith, gain_few A) in rw (v, get_or-set_same queue tail k 0 g) (snoc_last k R.keys)
+      queued : (j : ℕ) → j < q.many + n → Dec (j < q.many) → In (get_or (set q.keys q.many k) j 0) (snoc R.keys k)
+      queued j h (yes v) = rw (get_or-set_other q.keys q.many j k 0 (λ y. omega (arith, v))) (in_left _ R.keys (k ∷ []) (R.queued j v))
+      queued j h (no y) = let v : j ≡ q.many = omega (arith, gain_few A) in rw (v, get_or-set_same q.keys q.many k 0 g) (snoc_last k R.keys)

@@ -2,98 +2,67 @@
 // none is followed twice. Helpers between crates, with what each asks of its caller.
 #![tactic(auto)]
 
-ghost use Rattle.std.specs.Prelude.{◌≡◌, [], suc, ◌<◌, length};
-ghost use Rattle.format.specs.Limits.{node_limit};
+ghost use Rattle.std.specs.Prelude.{◌≡◌, [], ◌<◌, length};
 ghost use Rattle.keys.specs.Gather.{Holds};
-ghost use Rattle.filing.specs.Cabinet.{cabinet, Filed};
+ghost use Rattle.filing.specs.Cabinet.{Filed};
 ghost use Rattle.chains.specs.Reach.{Meets, Reached, From, Follows, Closed};
 
-use filing::drawer;
-use keyset::BYTES;
-use shared::wide;
+use filing::{Cabinet, LINKS, drawer};
+use keyset::KeySet;
 
-// Looks at a link while those from `from` are followed: its lower key, if that is new and not the key asked for, goes into the set and to
-// the end of the queue. The place after the end is written either way, and the length that is answered tells whether it counts.
-fn meet(
-    upper: u16,
-    lower: u16,
-    from: u16,
-    asked: u16,
-    marks: &mut [u8; BYTES],
-    queue: &mut [u16],
-    tail: usize,
-) -> usize
-    requires { (length marks.old ≡ 8192) × (tail < length queue.old) × (length queue.old ≡ suc node_limit) }
-    ensures { Meets upper lower from asked marks.old queue.old tail marks.new queue.new result }
-{
-    if upper != from {
-        return tail;
-    }
-    if lower == asked {
-        return tail;
-    }
-    let new = keyset::add(marks, lower);
-    queue[tail] = lower;
-    tail + new
+// The keys that were reached, each once, and how many they are.
+#[derive(Drop)]
+struct Queue {
+    keys: [u16; LINKS],
+    many: usize,
 }
 
-// Follows the links from one key. Answers how long the queue is.
-fn follow(
-    from: u16,
-    asked: u16,
-    upper: &[u16],
-    lower: &[u16],
-    older: &[u16],
-    latest: &[u16],
-    marks: &mut [u8; BYTES],
-    queue: &mut [u16],
-    tail: usize,
-) -> usize
-    requires filed { Filed (cabinet upper.now lower.now older.now latest.now) }
-    requires reached { Reached (cabinet upper.now lower.now older.now latest.now) asked marks.old queue.old tail }
-    requires from { From (cabinet upper.now lower.now older.now latest.now) asked from }
-    ensures { Follows (cabinet upper.now lower.now older.now latest.now) asked from marks.old queue.old tail marks.new queue.new result }
-{
-    let mut link = wide(latest[drawer(from)]);
-    let mut end = tail;
-    while 0 < link {
-        end = meet(upper[link], lower[link], from, asked, marks, queue, end);
-        link = wide(older[link]);
+impl Queue {
+    // Looks at a link while those from `from` are followed: its lower key, if that is new and not the key asked for, goes into the set and
+    // to the end of the queue. The place after the end is written either way, and how many there are tells whether it counts.
+    fn meet(&mut self, set: &mut KeySet, upper: u16, lower: u16, from: u16, asked: u16)
+        requires { self.old.many < length self.old.keys }
+        ensures { Meets upper lower from asked set.old.bytes self.old set.new.bytes self.new }
+    {
+        if upper == from && lower != asked {
+            let new = set.add(lower);
+            self.keys[self.many] = lower;
+            self.many += new;
+        }
     }
-    end
+
+    // Follows the links from one key. They are a list in the cabinet: a loop over a range cannot go along it.
+    fn follow(&mut self, set: &mut KeySet, cabinet: &Cabinet, from: u16, asked: u16)
+        requires filed { Filed cabinet.now }
+        requires reached { Reached cabinet.now asked set.old.bytes self.old }
+        requires from { From cabinet.now asked from }
+        ensures { Follows cabinet.now asked from set.old.bytes self.old set.new.bytes self.new }
+    {
+        let mut link = usize::from(cabinet.latest[drawer(from)]);
+        while 0 < link {
+            self.meet(set, cabinet.upper[link], cabinet.lower[link], from, asked);
+            link = usize::from(cabinet.older[link]);
+        }
+    }
 }
 
 // Puts the keys that a chain of links leads to from the key asked for into an empty set, without that key itself: how many they are. The
-// queue is room to work in.
-pub fn reach(
-    asked: u16,
-    upper: &[u16],
-    lower: &[u16],
-    older: &[u16],
-    latest: &[u16],
-    marks: &mut [u8; BYTES],
-    queue: &mut [u16],
-) -> usize
-    requires filed { Filed (cabinet upper.now lower.now older.now latest.now) }
-    requires holds { Holds marks.old [] }
-    requires queue_len { length queue.old ≡ suc node_limit }
-    ensures { Closed (cabinet upper.now lower.now older.now latest.now) asked marks.new result }
+// queue grows while it is gone through, so that no range is known for a loop over it.
+pub fn reach(cabinet: &Cabinet, asked: u16, set: &mut KeySet) -> usize
+    requires filed { Filed cabinet.now }
+    requires holds { Holds set.old.bytes [] }
+    ensures { Closed cabinet.now asked set.new.bytes result }
 {
-    let mut tail = follow(asked, asked, upper, lower, older, latest, marks, queue, 0);
+    let mut queue = Queue {
+        keys: [0; LINKS],
+        many: 0,
+    };
+    queue.follow(set, cabinet, asked, asked);
     let mut head: usize = 0;
-    while head < tail {
-        tail = follow(
-            queue[head],
-            asked,
-            upper,
-            lower,
-            older,
-            latest,
-            marks,
-            queue,
-            tail,
-        );
+    while head < queue.many {
+        let from = queue.keys[head];
+        queue.follow(set, cabinet, from, asked);
         head += 1;
     }
-    tail
+    queue.many
 }

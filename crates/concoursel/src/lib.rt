@@ -6,8 +6,8 @@ ghost use Rattle.operations.specs.Change.{ForwardStep, UndoStep, BlankForm};
 ghost use Rattle.operations.specs.TakeBack.{TakeBack};
 ghost use Rattle.packing.specs.Packed.{PackedStep, PackedNumber, PackedLent, PackedBoth, PackedFirst, PackedNode};
 
-use packing::{REFUSAL, packed_first, packed_node, packed_number, packed_step};
-use shared::{Key, Node, Number};
+use packing::{packed_first, packed_node, packed_number, packed_refusal, packed_step};
+use shared::{Key, Node};
 
 // Reading: the number of nodes.
 #[unsafe(no_mangle)]
@@ -23,8 +23,8 @@ pub extern "C" fn concoursel_node(record: &[u8], n: u16) -> u64
     ensures { PackedNode (ShownNode «record».now n) result }
 {
     match reader::read(record) {
-        Number::Refused(c) => c as u64 * REFUSAL,
-        Number::Is(_) => packed_node(record, walker::node(record, Node(n))),
+        Err(r) => packed_refusal(r),
+        Ok(_) => packed_node(record, walker::node(record, Node(n))),
     }
 }
 

@@ -1,5 +1,5 @@
 -- The promises of the cursor's functions, a law for each return.
-use mathlib.Core.Path.{◌≡◌, refl, ap, sym, subst, ◌∙◌}
+use mathlib.Core.Path.{◌≡◌, refl, ap, sym, ◌∙◌}
 use mathlib.Core.List.{List, append-nil}
 use Prim.Native.Nat.{ℕ, ◌+◌, ◌-◌, ◌<◌, ◌≤◌}
 use native.Mathlib.Omega.{arith}
@@ -12,13 +12,15 @@ use Rattle.format.specs.Encode.{encode, Bytes}
 use Rattle.format.specs.Preorder.{preorder}
 use Rattle.format.proofs.Unique.{encode-decode}
 use Rattle.reader.specs.Head.{NoNodeAt, Headed}
+use Rattle.std.specs.Prelude.{None, Some, Result, Ok, Err}
+use Rattle.std.specs.Result.{result_ok}
+use Rattle.shared.specs.declared.Refusal.{Refusal}
 use Rattle.reader.specs.declared.Head.{Head}
-use Rattle.reader.specs.declared.Head.TheVariants.{Refused}
-use Rattle.reader.specs.declared.Head.TheVariants as head
+use Rattle.reader.specs.declared.Kind.{Kind}
+use Rattle.reader.specs.Kind.{byte_of}
 use Rattle.cursor.specs.declared.Cursor.{Cursor}
-use Rattle.cursor.specs.declared.Shown.TheVariants as answer
 use Rattle.cursor.specs.Ahead.{Due, none, due, count, bytes_of, nodes_of, depths_of, Ahead}
-use Rattle.cursor.specs.At.{CursorAt, Opens, Shows, Goes, Idle, Ready, DueAt, Made}
+use Rattle.cursor.specs.At.{borne, CursorAt, Opens, Shows, Goes, Idle, Ready, DueAt, Made}
 use Rattle.cursor.proofs.Steps.{preorder-length, nothing_ahead, something_ahead, ahead_inside, ahead_few, ahead_good, ahead_some, ahead_shown, ahead_deep, ahead_room, after_leaf, after_one, after_two}
 
 module _ (s : List ℕ) (c : Cursor) where
@@ -35,7 +37,7 @@ module _ (s : List ℕ) (c : Cursor) where
     ap length (nothing_ahead s c.at c.due c.many (drop n (preorder 1 t)) C.waiting C.ahead z),
   )
 
-  pub shows_idle : Idle s c → Shows s c answer.Nothing
+  pub shows_idle : Idle s c → Shows s c None
   shows_idle idle = record {
     node = λ t n C. let e : length (preorder 1 t) ≤ n = omega (arith, preorder-length 1 t, idle t n C) in rw (drop_of_length-le (preorder 1 t) e);
     refused = λ k b. refl;
@@ -47,6 +49,10 @@ module _ (s : List ℕ) (c : Cursor) where
     stays = λ t n C h. refl;
     refused = λ k b. refl;
   }
+
+  -- no node has this number
+  pub idle_number : 4096 ≤ c.node.0 → Idle s c
+  idle_number h t n C = omega (arith, C.number, C.limit)
 
   module _ (z : c.many ≡ 0 → ⊥) where
     next_due : (t : Term) (n : ℕ) → CursorAt s t n c → Next t n
@@ -71,18 +77,10 @@ module _ (s : List ℕ) (c : Cursor) where
     unfolding Next
     idle_bad h t n C = let x = next_due t n C in absurd (ahead_good s c.at c.due c.many (drop n (preorder 1 t)) x.0 x.1 x.2 x.3 h)
 
-    -- the answer of `node_at` is that of `due_at`, where no test failed
-    pub due_head : (h : Head) → c.many ≤ 256 → c.node.0 < 4096 → Headed s c.at h → DueAt s c h
-    due_head (Refused r) m n H = idle_bad H.1
-    due_head (head.Node kind children next) m n H = record { head = H; some = omega arith; few = m; number = n }
-
-  -- the answer of `due_at`, once its case is known
-  module _ (h : Head) (D : DueAt s c h) where
-    pub due_idle : (r : ℕ) → h ≡ Refused r → Idle s c
-    due_idle r e = subst (DueAt s c) e D
-
-    pub due_ready : (kind children next : ℕ) → h ≡ head.Node kind children next → Ready s c kind children next
-    due_ready kind children next e = subst (DueAt s c) e D
+    -- what `node_at` answers is due, where no test failed
+    pub due_head : (r : Result Head Refusal) → c.many ≤ 256 → c.node.0 < 4096 → Headed s c.at r → DueAt s c (result_ok r)
+    due_head (Err r) m n H = idle_bad H.1
+    due_head (Ok h) m n H = record { head = H; some = omega arith; few = m; number = n }
 
   module _ (kind children next : ℕ) (R : Ready s c kind children next) where
     full : c.many ≡ 0 → ⊥
@@ -98,23 +96,23 @@ module _ (s : List ℕ) (c : Cursor) where
     idle_full a h t n C = let x = next_due full t n C in
         absurd (omega (arith, ahead_room s c.at c.due c.many (drop n (preorder 1 t)) x.0 x.1 x.2 x.3 kind children next R.head a))
 
-    pub shows_node : Shows s c (answer.Node kind (c.at + 1) (next - (c.at + 1)) (get_or c.due (c.many - 1) 0))
+    pub shows_node : (k : Kind) → byte_of k ≡ kind → Shows s c (Some (record { kind = k; body = c.at + 1; length = next - (c.at + 1); depth = get_or c.due (c.many - 1) 0 }))
     unfolding Next
-    shows_node = record {
+    shows_node k e = record {
       node = λ t n C. let x = next_due full t n C in
-          sym (ahead_shown s c.at c.due c.many (drop n (preorder 1 t)) x.0 x.1 x.2 x.3 kind children next R.head);
+          rw e (sym (ahead_shown s c.at c.due c.many (drop n (preorder 1 t)) x.0 x.1 x.2 x.3 kind children next R.head));
       refused = λ k b. absurd (full b.none);
     }
 
     -- the cursor goes on to r
-    moved : (r : Cursor) (depths : List ℕ) (many : ℕ) → Made next (c.node.0 + 1) depths many r
+    moved : (r : Cursor) (depths : List ℕ) (many : ℕ) → Made (record c { due = depths }) next many r
         → ((t : Term) (n : ℕ) → CursorAt s t n c → (w : Due) × Ahead s next depths many (drop 1 (drop n (preorder 1 t))) w) → Goes s c r
     moved r depths many M f = record {
       on = λ t n C h. record {
         reads = C.reads;
         limit = C.limit;
         within = omega arith;
-        fine = M.fine;
+        fine = M.fine ∙ C.fine;
         number = omega (arith, M.node, C.number);
         waiting = (f t n C).0;
         ahead = rw (M.place, M.stack, M.height, ← add-one n, ← drop-drop 1 n (preorder 1 t)) (f t n C).1;
@@ -123,7 +121,7 @@ module _ (s : List ℕ) (c : Cursor) where
       refused = λ k b. absurd (full b.none);
     }
 
-    pub moves_leaf : (r : Cursor) → children ≡ 0 → Made next (c.node.0 + 1) c.due (c.many - 1) r → Goes s c r
+    pub moves_leaf : (r : Cursor) → children ≡ 0 → Made c next (c.many - 1) r → Goes s c r
     unfolding Next
     moves_leaf r q M = moved r c.due (c.many - 1) M
         (λ t n C. let x = next_due full t n C in (_, after_leaf s c.at c.due c.many (drop n (preorder 1 t)) x.0 x.1 x.2 x.3 kind children next R.head q))
@@ -131,28 +129,28 @@ module _ (s : List ℕ) (c : Cursor) where
     abbrev deeper : ℕ
     deeper = get_or c.due (c.many - 1) 0 + 1
 
-    pub moves_one : (r : Cursor) → children ≡ 1 → Made next (c.node.0 + 1) (set c.due (c.many - 1) deeper) c.many r → Goes s c r
+    pub moves_one : (r : Cursor) → children ≡ 1 → Made (record c { due = set c.due (c.many - 1) deeper }) next c.many r → Goes s c r
     unfolding Next
     moves_one r q M = moved r (set c.due (c.many - 1) deeper) c.many M
         (λ t n C. let x = next_due full t n C in (_, after_one s c.at c.due c.many (drop n (preorder 1 t)) x.0 x.1 x.2 x.3 kind children next R.head q))
 
     pub moves_two : (r : Cursor) → (children ≡ 0 → ⊥) → (children ≡ 1 → ⊥)
-        → Made next (c.node.0 + 1) (set (set c.due (c.many - 1) deeper) c.many deeper) (c.many + 1) r → Goes s c r
+        → Made (record c { due = set (set c.due (c.many - 1) deeper) c.many deeper }) next (c.many + 1) r → Goes s c r
     unfolding Next
     moves_two r a b M = moved r (set (set c.due (c.many - 1) deeper) c.many deeper) (c.many + 1) M
         (λ t n C. let x = next_due full t n C in (_, after_two s c.at c.due c.many (drop n (preorder 1 t)) x.0 x.1 x.2 x.3 kind children next R.head a b))
 
 -- opening: the root is due, at depth 1
-pub opens_standing : (s : List ℕ) (t : Term) (depths : List ℕ) (c : Cursor) → Bytes s → Reads s t → get_or depths 0 0 ≡ 1 → length depths ≡ 256 → Made 0 0 depths 1 c → Opens s c
+pub opens_standing : (s : List ℕ) (t : Term) (c : Cursor) → Bytes s → Reads s t → c.refusal ≡ None → c.at ≡ 0 → c.node.0 ≡ 0 → c.many ≡ 1 → get_or c.due 0 0 ≡ 1 → length c.due ≡ 256 → Opens s c
 unfolding bytes_of nodes_of depths_of count
-opens_standing s t depths c B e h l M = let x = encode-decode s t B e in Opens.standing {t = t} (record {
+opens_standing s t c B e fine place number height h l = let x = encode-decode s t B e in Opens.standing {t = t} (record {
   reads = e;
   limit = x.1.nodes;
   within = omega arith;
-  fine = M.fine;
-  number = M.node;
+  fine = fine;
+  number = number;
   waiting = due 1 t none;
-  ahead = rw (M.place, M.stack, M.height) (record {
+  ahead = rw (place, height) (record {
     bytes = sym x.0 ∙ sym (append-nil (encode t));
     nodes = sym (append-nil (preorder 1 t));
     stack = rw h;
@@ -161,5 +159,5 @@ opens_standing s t depths c B e h l M = let x = encode-decode s t B e in Opens.s
   });
 })
 
-pub opens_refused : (s : List ℕ) (k : ℕ) (c : Cursor) → Refuses s k → c.refusal ≡ k → c.many ≡ 0 → Opens s c
+pub opens_refused : (s : List ℕ) (k : ℕ) (c : Cursor) → Refuses s k → borne c.refusal ≡ k → c.many ≡ 0 → Opens s c
 opens_refused s k c e h z = Opens.refused e (record { number = h; none = z })

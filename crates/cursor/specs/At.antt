@@ -1,17 +1,17 @@
 -- What the cursor's three functions promise, for a cursor that stands at a node of the record, or bears a refusal.
 -- Of a cursor that was made in any other way, or for other bytes, only this is promised: nothing is read out of range.
-use Rattle.std.specs.Prelude.{◌≡◌, List, [], ◌∷◌, ℕ, suc, ◌≤◌, ◌<◌, take, drop}
+use Rattle.std.specs.Prelude.{◌≡◌, List, [], ◌∷◌, ℕ, suc, ◌+◌, ◌≤◌, ◌<◌, take, drop, Option, None, Some}
 use Rattle.ccsk.specs.Term.{Term, size}
 use Rattle.format.specs.Limits.{node_limit, depth_limit}
 use Rattle.format.specs.Read.{Reads, Refuses}
 use Rattle.format.specs.Preorder as term
 use Rattle.reader.specs.Head.{NodeAt}
+use Rattle.shared.specs.Refusal.{number}
+use Rattle.shared.specs.declared.Refusal.{Refusal}
+use Rattle.reader.specs.Kind.{byte_of}
 use Rattle.reader.specs.declared.Head.{Head}
-use Rattle.reader.specs.declared.Head.TheVariants.{Refused}
-use Rattle.reader.specs.declared.Head.TheVariants as head
 use Rattle.cursor.specs.declared.Cursor.{Cursor}
 use Rattle.cursor.specs.declared.Shown.{Shown}
-use Rattle.cursor.specs.declared.Shown.TheVariants.{Nothing, Node}
 use Rattle.cursor.specs.Ahead.{Due, Ahead}
 
 -- The cursor stands at node n of the record s of the term t; at n = size t it is past the last.
@@ -19,14 +19,19 @@ pub record CursorAt (s : List ℕ) (t : Term) (n : ℕ) (c : Cursor) : Type 0 wh
   pub reads : Reads s t
   pub limit : size t ≤ node_limit
   pub within : n ≤ size t
-  pub fine : c.refusal ≡ 0
+  pub fine : c.refusal ≡ None
   pub number : c.node.0 ≡ n
   pub waiting : Due
   pub ahead : Ahead s c.at c.due c.many (drop n (term.preorder 1 t)) waiting
 
+-- the number of the refusal that a cursor bears; 0 where it bears none
+abbrev pub borne : Option Refusal → ℕ
+borne None = 0
+borne (Some r) = number r
+
 -- The cursor bears the refusal k.
 pub record Bears (k : ℕ) (c : Cursor) : Type 0 where
-  pub number : c.refusal ≡ k
+  pub number : borne c.refusal ≡ k
   pub none : c.many ≡ 0
 
 -- Opening reads the whole record.
@@ -35,12 +40,12 @@ pub data Opens (s : List ℕ) (c : Cursor) : Type 0 where
   standing : {t : Term} → CursorAt s t 0 c → Opens s c
 
 -- what is shown, as a list of at most one node
-abbrev pub showing : List ℕ → Shown → List term.Shown
-showing s Nothing = []
-showing s (Node kind body length depth) = term.shown kind (take length (drop body s)) depth ∷ []
+abbrev pub showing : List ℕ → Option Shown → List term.Shown
+showing s None = []
+showing s (Some n) = term.shown (byte_of n.kind) (take n.length (drop n.body s)) n.depth ∷ []
 
 -- At node n it shows element n of the nodes in preorder, past the last none; a refused cursor shows none.
-pub record Shows (s : List ℕ) (c : Cursor) (r : Shown) : Type 0 where
+pub record Shows (s : List ℕ) (c : Cursor) (r : Option Shown) : Type 0 where
   pub node : (t : Term) (n : ℕ) → CursorAt s t n c → showing s r ≡ take 1 (drop n (term.preorder 1 t))
   pub refused : (k : ℕ) → Bears k c → showing s r ≡ []
 
@@ -62,14 +67,14 @@ pub record Ready (s : List ℕ) (c : Cursor) (kind children next : ℕ) : Type 0
   pub number : c.node.0 < node_limit
 
 -- what `due_at` answers
-abbrev pub DueAt : List ℕ → Cursor → Head → Type 0
-DueAt s c (Refused r) = Idle s c
-DueAt s c (head.Node kind children next) = Ready s c kind children next
+abbrev pub DueAt : List ℕ → Cursor → Option Head → Type 0
+DueAt s c None = Idle s c
+DueAt s c (Some h) = Ready s c (byte_of h.kind) h.children h.next
 
--- what `standing` answers: a cursor with no refusal, made of these parts
-pub record Made (at number : ℕ) (depths : List ℕ) (many : ℕ) (c : Cursor) : Type 0 where
-  pub fine : c.refusal ≡ 0
-  pub place : c.at ≡ at
-  pub node : c.node.0 ≡ number
-  pub stack : c.due ≡ depths
-  pub height : c.many ≡ many
+-- what `stand` makes of the cursor c: the same, at the next node, with so many nodes due
+pub record Made (c : Cursor) (at many : ℕ) (r : Cursor) : Type 0 where
+  pub fine : r.refusal ≡ c.refusal
+  pub place : r.at ≡ at
+  pub node : r.node.0 ≡ c.node.0 + 1
+  pub stack : r.due ≡ c.due
+  pub height : r.many ≡ many

@@ -1,4 +1,5 @@
 -- Why the cycle test is right: laws on plain lists and numbers.
+pub mod Pairs
 pub mod Queues
 pub mod Steps
 pub mod Columns

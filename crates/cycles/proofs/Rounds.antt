@@ -91,7 +91,7 @@ room one two c q h t u rest s l = (positive, less)
     less : t < length one
     less = let e = s.queue.counted in let z = zeros_less (length one) c u l (λ q. let p = positive in omega arith) in omega arith
 
-module _ (one two c q : List ℕ) (h t u v : ℕ) (rest : List ℕ) (s : State one two c q h t (u ∷ rest)) (l : u < length one) (n : length c ≡ length one) (e : get_or c u 0 ≡ suc v) where
+module _ (one two c q : List ℕ) (h t u v : ℕ) (rest : List ℕ) (s : State one two c q h t (u ∷ rest)) (l : u < length one) (n : length one ≤ length c) (e : get_or c u 0 ≡ suc v) where
   fallen : (j : ℕ) → j < length one → get_or (set c u v) j 0 ≡ pending j (taken q h) (lower one two) (upper one two) + times j (rest ++ 0 ∷ (0 ∷ []))
   fallen j k = pick (ℕ_discrete j u)
     where
@@ -108,17 +108,17 @@ module _ (one two c q : List ℕ) (h t u v : ℕ) (rest : List ℕ) (s : State o
   freed z r = record { columns = s.columns; queue = rw z (queued_free (length one) c q t u s.queue l (omega arith) (λ y. omega arith) r); passed = let p = s.passed in omega arith; rowed = rw (taken-set q t u h s.passed) s.rowed; counters = λ j k. rw (taken-set q t u h s.passed) (fallen j k) }
 
 -- after either of the two
-pub after : (one two c q : List ℕ) (h t u : ℕ) (rest c' q' : List ℕ) (t' : ℕ) → length c ≡ length one → length one ≤ length q → u < length one → State one two c q h t (u ∷ rest) → Released u c q t c' q' t'
-    → (length c' ≡ length one) × (length q' ≡ length q) × State one two c' q' h t' rest
-after one two c q h t u rest c' q' t' n r l s (fell v e p) = (length-set c u v ∙ n, refl, released one two c q h t u v rest s l n e p)
-after one two c q h t u rest c' q' t' n r l s (free v e z) = (length-set c u v ∙ n, length-set q t u, rw (add-one t) (freed one two c q h t u v rest s l n e z (let x = room one two c q h t u rest s l in omega arith)))
+pub after : (one two c q : List ℕ) (h t u : ℕ) (rest c' q' : List ℕ) (t' : ℕ) → length one ≤ length c → length one ≤ length q → u < length one → State one two c q h t (u ∷ rest) → Released u c q t c' q' t'
+    → (length c' ≡ length c) × (length q' ≡ length q) × State one two c' q' h t' rest
+after one two c q h t u rest c' q' t' n r l s (fell v e p) = (length-set c u v, refl, released one two c q h t u v rest s l n e p)
+after one two c q h t u rest c' q' t' n r l s (free v e z) = (length-set c u v, length-set q t u, rw (add-one t) (freed one two c q h t u v rest s l n e z (let x = room one two c q h t u rest s l in omega arith)))
 
 -- as many as have come
 pub in_order : (one two c q : List ℕ) (h t : ℕ) (rest : List ℕ) → State one two c q h t rest → (h ≤ t) × (t ≤ length one)
 in_order one two c q h t rest s = (s.passed, let a = s.queue.counted in let b = zeros_le (length one) c in omega arith)
 
 -- The queue has run empty: all but 0 have been taken out exactly if there is no cycle.
-pub finish : (one two c q : List ℕ) (t : ℕ) → State one two c q t t [] → length c ≡ length one → (t + 1 ≡ length one) ↔ Acyclic one two
+pub finish : (one two c q : List ℕ) (t : ℕ) → State one two c q t t [] → length one ≤ length c → (t + 1 ≡ length one) ↔ Acyclic one two
 finish one two c q t s n = (λ e. (acyclic_over one two s.columns).0 (all e), λ a. last a)
   where
     p : Columns one two

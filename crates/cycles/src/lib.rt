@@ -1,37 +1,31 @@
 // Whether a relation on small numbers has a cycle (01, Soundness, 7): numbers that stand above none that is left are taken out, one by one.
 // Helpers between crates, with what each asks of its caller.
+// Counters and queue stay two lent slices: a struct of them asks each method to promise that the references stay, or a bound on its size.
 #![tactic(auto)]
 
-ghost use Rattle.std.specs.Prelude.{◌≡◌, ◌↔◌, true, ◌+◌, ◌<◌, ◌≤◌, length, get_or, replicate};
+ghost use Rattle.std.specs.Prelude.{◌≡◌, ◌↔◌, true, ◌+◌, ◌<◌, ◌≤◌, length, get_or};
 ghost use Rattle.causes.specs.Columns.{Below};
+ghost use Rattle.cycles.specs.Pair.{firsts, seconds};
 ghost use Rattle.cycles.specs.Graph.{Columns, Acyclic};
 ghost use Rattle.cycles.specs.Queue.{Queued};
 ghost use Rattle.cycles.specs.Counters.{Room, Counted, Released, Ready};
 
-use shared::wide;
-
-// Every counter becomes 0.
-fn clear(counters: &mut [u16])
-    ensures { counters.new ≡ replicate (length counters.old) 0 }
-{
-    let mut i: usize = 0;
-    while i < counters.len() {
-        counters[i] = 0;
-        i += 1;
-    }
+// Two numbers, such as what stands right above a number, once or twice; 0 is nothing.
+#[derive(Clone, Copy)]
+pub struct Pair {
+    pub first: u16,
+    pub second: u16,
 }
 
-// Adds to each counter how often its number stands in the column.
-fn count(column: &[u16], counters: &mut [u16])
-    requires below { Below (length counters.old) column.now }
-    requires room { Room (length column.now) counters.old }
-    ensures { Counted column.now counters.old counters.new }
+// Adds to each counter how often its number stands in the pairs.
+fn count(over: &[Pair], counters: &mut [u16])
+    requires below { Below (length counters.old) (firsts over.now) × Below (length counters.old) (seconds over.now) }
+    requires room { Room (length over.now + length over.now) counters.old }
+    ensures { Counted (firsts over.now) (seconds over.now) counters.old counters.new }
 {
-    let mut i: usize = 0;
-    while i < column.len() {
-        let u = wide(column[i]);
-        counters[u] += 1;
-        i += 1;
+    for two in over {
+        counters[usize::from(two.first)] += 1;
+        counters[usize::from(two.second)] += 1;
     }
 }
 
@@ -42,13 +36,11 @@ fn gather(counters: &[u16], queue: &mut [u16]) -> usize
     ensures { Queued (length counters.now) counters.now queue.new result }
 {
     let mut tail: usize = 0;
-    let mut k: u16 = 0;
-    while wide(k) < counters.len() {
-        if counters[wide(k)] == 0 {
-            queue[tail] = k;
+    for (k, left) in counters.iter().enumerate() {
+        if *left == 0 {
+            queue[tail] = k as u16;
             tail += 1;
         }
-        k += 1;
     }
     tail
 }
@@ -60,43 +52,44 @@ fn release(u: u16, counters: &mut [u16], queue: &mut [u16], tail: usize) -> usiz
     requires tail_in_bounds { tail < length queue.old }
     ensures { Released u counters.old queue.old tail counters.new queue.new result }
 {
-    let at = wide(u);
+    let at = usize::from(u);
     let left = counters[at] - 1;
     counters[at] = left;
     if left == 0 {
         queue[tail] = u;
-        return tail + 1;
+        tail + 1
+    } else {
+        tail
     }
-    tail
 }
 
-// Takes out the numbers of the queue, the first `free` of which are there, until it runs empty; answers how many it has had.
-fn peel(one: &[u16], two: &[u16], counters: &mut [u16], queue: &mut [u16], free: usize) -> usize
-    requires { Ready one.now two.now counters.old queue.old free }
-    ensures { (result + 1 ≡ length one.now) ↔ Acyclic one.now two.now }
+// Takes out the numbers of the queue, the first `free` of which are there, until it runs empty; answers how many it has had. The loop follows
+// the queue, which grows while it is read.
+fn peel(over: &[Pair], counters: &mut [u16], queue: &mut [u16], free: usize) -> usize
+    requires { Ready (firsts over.now) (seconds over.now) counters.old queue.old free }
+    ensures { (result + 1 ≡ length over.now) ↔ Acyclic (firsts over.now) (seconds over.now) }
 {
     let mut tail = free;
     let mut head: usize = 0;
     while head < tail {
-        let m = wide(queue[head]);
-        tail = release(one[m], counters, queue, tail);
-        tail = release(two[m], counters, queue, tail);
+        let two = over[usize::from(queue[head])];
+        tail = release(two.first, counters, queue, tail);
+        tail = release(two.second, counters, queue, tail);
         head += 1;
     }
     tail
 }
 
-// Whether going down the columns never leads back. The counters and the queue are room to work in.
-pub fn acyclic(one: &[u16], two: &[u16], counters: &mut [u16], queue: &mut [u16]) -> bool
-    requires columns { Columns one.now two.now }
-    requires counters_len { length counters.old ≡ length one.now }
-    requires one_in_bounds { length one.now ≤ length queue.old }
-    ensures { (result ≡ true) ↔ Acyclic one.now two.now }
+// Whether going down never leads back. The counters and the queue are room to work in.
+pub fn acyclic(over: &[Pair], counters: &mut [u16], queue: &mut [u16]) -> bool
+    requires columns { Columns (firsts over.now) (seconds over.now) }
+    requires counters_len { length counters.old ≡ length over.now }
+    requires one_in_bounds { length over.now ≤ length queue.old }
+    ensures { (result ≡ true) ↔ Acyclic (firsts over.now) (seconds over.now) }
 {
-    clear(counters);
-    count(one, counters);
-    count(two, counters);
+    counters.fill(0);
+    count(over, counters);
     let free = gather(counters, queue);
-    let taken = peel(one, two, counters, queue, free);
-    taken == one.len() - 1
+    let taken = peel(over, counters, queue, free);
+    taken == over.len() - 1
 }

@@ -10,7 +10,8 @@ use Rattle.ccsk.specs.Term.{Key}
 use Rattle.ccsk.proofs.Basic.{never}
 use Rattle.ccsk.proofs.Lists.{get_or_zeros}
 use Rattle.format.specs.Limits.{node_limit}
-use Rattle.filing.specs.Cabinet.{Cabinet, cabinet, with_link, Sized, Empty, Link, drawer, InDrawer, Latest, Filed, Files, none, one}
+use Rattle.filing.specs.declared.Cabinet.{Cabinet}
+use Rattle.filing.specs.Cabinet.{with_link, Sized, Empty, Link, drawer, InDrawer, Latest, Filed, Files, none, one}
 
 -- The cabinet is in order and holds n links, numbered from 1 on.
 pub record Holding (x : Cabinet) (n : ℕ) : Type 0 where
@@ -18,7 +19,8 @@ pub record Holding (x : Cabinet) (n : ℕ) : Type 0 where
   pub rest : (i : ℕ) → n < i → get_or x.upper i 0 ≡ 0
 
 -- columns of zeros file nothing
-zeros : (n : ℕ) → n ≡ node_limit → (m : ℕ) → m ≡ suc node_limit → Empty (cabinet (replicate m 0) (replicate m 0) (replicate m 0) (replicate n 0))
+pub zeros : (n : ℕ) → n ≡ node_limit → (m : ℕ) → m ≡ suc node_limit
+    → Empty (record { upper = replicate m 0; lower = replicate m 0; older = replicate m 0; latest = replicate n 0 })
 zeros n e m f = record {
   sized = record { upper = long m ∙ f; lower = long m ∙ f; older = long m ∙ f; latest = long n ∙ e };
   upper = get_or_zeros m;
@@ -27,9 +29,6 @@ zeros n e m f = record {
   where
     long : (i : ℕ) → length {A = ℕ} (replicate i 0) ≡ i
     long i = length-replicate {A = ℕ} i 0
-
-pub empty : Empty (cabinet (replicate 4097 0) (replicate 4097 0) (replicate 4097 0) (replicate 4096 0))
-empty = zeros 4096 refl 4097 refl
 
 pub holding_none : (x : Cabinet) → Empty x → Holding x 0
 holding_none x E = record {

@@ -2,7 +2,8 @@
 use mathlib.Core.Path.{◌≡◌, refl, sym, ap, subst, ◌∙◌}
 use mathlib.Core.Logic.{◌⊎◌, inl, inr, ⊎_elim, ◌↔◌}
 use mathlib.Core.List.{List, [], ◌∷◌, ◌++◌, append_assoc, append-nil}
-use mathlib.Core.Bool.{Bool, false}
+use mathlib.Core.Bool.{Bool, false, ◌||◌}
+use lib.Dec.{eqb}
 use Prim.Native.Nat.{ℕ, suc, ◌+◌, ◌-◌, ◌≤◌, ◌<◌}
 use native.Mathlib.Omega.{arith}
 use lib.ListN.{length, get_or, replicate, length-replicate}
@@ -16,12 +17,12 @@ use Rattle.format.specs.Kinds.{length_of_body, count_of_children}
 use Rattle.format.proofs.Flat.{key_here, kind_here, due_after, children_due, all_due, keys_head, keys_one, keys_none}
 use Rattle.reader.specs.Due.{stacked, push, Remains, Passed}
 use Rattle.reader.proofs.Stack.{stacked_top}
-use Rattle.reader.proofs.Due.{at_start, no_more_bytes, children_most}
-use Rattle.shared.specs.declared.Number.TheVariants.{Is}
+use Rattle.reader.proofs.Due.{at_start, no_more_bytes}
 use Rattle.keys.specs.Gather.{RecordOf, Readable}
 use Rattle.keys.proofs.Reading.{was_read}
-use Rattle.filing.specs.Cabinet.{Cabinet, Empty, Link, Files}
-use Rattle.filing.specs.Record.{below, Pushed, MetBy, AllFiled, FiledUpTo, Stands}
+use Rattle.filing.specs.declared.Cabinet.{Cabinet}
+use Rattle.filing.specs.Cabinet.{Empty, Link, Files}
+use Rattle.filing.specs.Record.{below, Pushed, AllFiled, FiledUpTo, Stands}
 use Rattle.filing.proofs.Drawers.{Holding, holding_none, link_none, holding_filed, link_filed, filed_few}
 use Rattle.filing.proofs.Terms.{LinksOf, HeadLink, links_after, links_none}
 use Rattle.filing.proofs.Standing.{Tells, tells_more, stands}
@@ -70,7 +71,7 @@ module _ (s : List ℕ) (m : Key) (x : Cabinet) (ups : List ℕ) (many at : ℕ)
 -- one node more, which holds the key k, below the key u
 module _ (s : List ℕ) (m : Key) (x : Cabinet) (ups : List ℕ) (many at n : ℕ) (met : Bool) (h : at < length s) (g : 0 < many) (H : Holding x n) (f : n < node_limit) (k : Key) (q : k ≡ key_at s at)
     (u : Key) (e : u ≡ get_or ups (many - 1) 0) (y : Cabinet) (r : ℕ) (F : Files n u k x y r) (b : ℕ) (d : b ≡ get_or s at 0) (ups' : List ℕ) (many' : ℕ)
-    (met' : Bool) (M : MetBy met k m met') (p : 0 < m) (G : Pushed ups many (below u k) (count_of_children b) ups' many') (P : Filling s m x ups many at met) where
+    (p : 0 < m) (G : Pushed ups many (below u k) (count_of_children b) ups' many') (P : Filling s m x ups many at met) where
   kind : b ≡ head_kind P.terms
   kind = d ∙ kind_here s at P.terms P.due h
 
@@ -110,7 +111,7 @@ module _ (s : List ℕ) (m : Key) (x : Cabinet) (ups : List ℕ) (many at n : �
       back (inl i) = ⊎_elim inl (λ z. inr (c.1 (inl z))) (l.0 i)
       back (inr i) = inr (c.1 (inr i))
 
-  filling_more : Filling s m y ups' many' (at + (1 + length_of_body b)) met'
+  filling_more : Filling s m y ups' many' (at + (1 + length_of_body b)) (met || eqb k m)
   filling_more = record {
     of = P.of;
     whole = P.whole;
@@ -120,7 +121,7 @@ module _ (s : List ℕ) (m : Key) (x : Cabinet) (ups : List ℕ) (many at n : �
     exact = links_on;
     past = P.past ++ done k [];
     all = rw (append_assoc, key, ← keys_head P.terms) P.all;
-    tells = tells_more m k P.past met met' p M P.tells;
+    tells = tells_more m k P.past met p P.tells;
   }
 
 -- Up to the place `at` the bytes s were read and links were filed, n of them. If s is a record, they are the links to its nodes before `at`,
@@ -145,24 +146,18 @@ start s m x due l d E = record {
 -- the next node is passed
 module _ (s : List ℕ) (m : Key) (x : Cabinet) (due ups : List ℕ) (many left at n : ℕ) (met : Bool) (P : Passing s m x due ups many left at n met) (g : 0 < many)
     (kind children next : ℕ) (due' : List ℕ) (N : Passed s at left many kind children next due') where
-  pub stack_room : many < length ups
-  stack_room = omega (arith, P.long, N.deep)
-
-  pub children_few : children ≤ 2
-  children_few = omega (arith, N.good.count, children_most kind N.good.known)
-
-  pub link_room : n < node_limit
+  link_room : n < node_limit
   link_room = omega (arith, P.room, N.nodes)
 
-  pub onward : 0 < m → (k : Key) → k ≡ key_at s at → (u : Key) → u ≡ get_or ups (many - 1) 0 → (y : Cabinet) (r : ℕ) → Files n u k x y r → (met' : Bool) → MetBy met k m met'
-      → (v : Key) → v ≡ below u k → (ups' : List ℕ) (many' : ℕ) → Pushed ups many v children ups' many' → Passing s m y due' ups' many' (left - 1) next r met'
-  onward p k q u e y r F met' M v z ups' many' G = record {
+  pub onward : 0 < m → (k : Key) → k ≡ key_at s at → (u : Key) → u ≡ get_or ups (many - 1) 0 → (y : Cabinet) (r : ℕ) → Files n u k x y r
+      → (v : Key) → v ≡ below u k → (ups' : List ℕ) (many' : ℕ) → Pushed ups many v children ups' many' → Passing s m y due' ups' many' (left - 1) next r (met || eqb k m)
+  onward p k q u e y r F v z ups' many' G = record {
     remains = rw G.high N.remains;
     holding = holding_filed F P.holding link_room;
     room = omega (arith, P.room, N.nodes, filed_few F);
     long = G.long ∙ P.long;
-    filling = λ R. subst (λ (i : ℕ). Filling s m y ups' many' i met') ends
-        (filling_more s m x ups many at n met N.inside g P.holding link_room k q u e y r F kind N.good.byte ups' many' met' M p pushed (P.filling R));
+    filling = λ R. subst (λ (i : ℕ). Filling s m y ups' many' i (met || eqb k m)) ends
+        (filling_more s m x ups many at n met N.inside g P.holding link_room k q u e y r F kind N.good.byte ups' many' p pushed (P.filling R));
   }
     where
       ends : at + (1 + length_of_body kind) ≡ next
@@ -174,7 +169,7 @@ module _ (s : List ℕ) (m : Key) (x : Cabinet) (due ups : List ℕ) (many left 
 -- everything was read
 module _ (s : List ℕ) (m : Key) (x : Cabinet) (due ups : List ℕ) (many left at n : ℕ) (met : Bool) (P : Passing s m x due ups many left at n met) (z : many ≡ 0) (h : length s ≤ at) (B : Bytes s) where
   readable : Readable s
-  readable = was_read s (Is (node_limit - left)) (no_more_bytes s due many left at P.remains z B h) B (node_limit - left) refl
+  readable = was_read s (node_limit - left) (no_more_bytes s due many left at P.remains z B h) B
 
   filled : Filling s m x ups many at met
   filled = P.filling readable

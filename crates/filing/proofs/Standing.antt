@@ -2,7 +2,9 @@
 use mathlib.Core.Path.{◌≡◌, sym}
 use mathlib.Core.Logic.{inl, inr, ⊎_elim}
 use mathlib.Core.List.{List, [], ◌++◌}
-use mathlib.Core.Bool.{Bool, true, false}
+use mathlib.Core.Bool.{Bool, true, false, ◌||◌}
+use lib.Dec.{eqb}
+use borrow.Author.Tests.{eq-eqb, ne_eqb}
 use Prim.Native.Nat.{ℕ, zero, suc, ◌<◌}
 use native.Mathlib.Decide.{ℕ_discrete}
 use native.Mathlib.Omega.{arith}
@@ -11,7 +13,7 @@ use Rattle.ccsk.specs.Term.{Term, Key, keys, done}
 use Rattle.ccsk.proofs.Lists.{in_left, in_right, in_either}
 use Rattle.ccsk.proofs.Keys.{has_in, in_has}
 use Rattle.keys.specs.Gather.{RecordOf}
-use Rattle.filing.specs.Record.{Stands, MetBy}
+use Rattle.filing.specs.Record.{Stands}
 
 -- whether m stands in the list
 abbrev pub Tells : Key → List Key → Bool → Type 0
@@ -29,16 +31,13 @@ done_in m (suc k) (inl e) = sym e
 done_in m (suc k) (inr i) = absurd i
 
 -- one node more
-pub tells_more : (m k : Key) (l : List Key) (met r : Bool) → 0 < m → MetBy met k m r → Tells m l met → Tells m (l ++ done k []) r
-tells_more m k l met r p M t = pick (ℕ_discrete k m)
+pub tells_more : (m k : Key) (l : List Key) (met : Bool) → 0 < m → Tells m l met → Tells m (l ++ done k []) (met || eqb k m)
+tells_more m k l true p i = in_left m l (done k []) i
+tells_more m k l false p f = pick (ℕ_discrete k m)
   where
-    longer : (b : Bool) → (k ≡ m → ⊥) → Tells m l b → Tells m (l ++ done k []) b
-    longer true n i = in_left m l (done k []) i
-    longer false n f = λ i. ⊎_elim f (λ j. n (done_in m k j)) (in_either m l (done k []) i)
-
-    pick : Dec (k ≡ m) → Tells m (l ++ done k []) r
-    pick (yes e) = rw (M.same e) (in_right m l (done k []) (in_done m k p e))
-    pick (no e) = rw (M.other e) (longer met e t)
+    pick : Dec (k ≡ m) → Tells m (l ++ done k []) (eqb k m)
+    pick (yes e) = rw (eq-eqb k m e) (in_right m l (done k []) (in_done m k p e))
+    pick (no e) = rw (ne_eqb k m e) (λ i. ⊎_elim f (λ j. e (done_in m k j)) (in_either m l (done k []) i))
 
 -- told of all keys of a record
 pub stands : (s : List ℕ) (m : Key) (t : Term) → RecordOf s t → 0 < m → (met : Bool) → Tells m (keys t) met → Stands s m met

@@ -13,11 +13,6 @@ use Rattle.format.specs.Kinds.{count_of_children}
 use Rattle.reader.specs.Due.{push}
 use Rattle.filing.specs.Record.{below}
 
--- below a node that holds a key, that key is right above
-pub below_key : (u k : Key) → (k ≡ 0 → ⊥) → k ≡ below u k
-below_key u zero n = absurd (n refl)
-below_key u (suc k) n = refl
-
 -- m is right above n in one of the terms, each of which stands below its key
 abbrev pub LinksOf : List Key → List Term → Key → Key → Type 0
 LinksOf [] ts m n = ⊥

@@ -1,18 +1,8 @@
--- Links from a key to one right below it, in four columns. The links are numbered from 1; 0 is none. Each is filed in the drawer of its upper key.
-use Rattle.std.specs.Prelude.{◌≡◌, ◌⊎◌, List, ℕ, suc, ◌+◌, ◌*◌, ◌<◌, ◌/◌, ◌%◌, length, get_or, set}
+-- Links from a key to one right below it, in the columns of a cabinet.
+use Rattle.std.specs.Prelude.{◌≡◌, ◌⊎◌, ℕ, suc, ◌+◌, ◌*◌, ◌<◌, ◌/◌, ◌%◌, length, get_or, set}
 use Rattle.ccsk.specs.Term.{Key}
 use Rattle.format.specs.Limits.{node_limit}
-
--- For each link its upper key, 0 while there is no such link, its lower key, and the link filed before it in its drawer; for each drawer its
--- latest link.
-pub record Cabinet : Type 0 where
-  pub upper : List ℕ
-  pub lower : List ℕ
-  pub older : List ℕ
-  pub latest : List ℕ
-
-abbrev pub cabinet : List ℕ → List ℕ → List ℕ → List ℕ → Cabinet
-cabinet us ls os ds = record { upper = us; lower = ls; older = os; latest = ds }
+use Rattle.filing.specs.declared.Cabinet.{Cabinet}
 
 -- each column of links has a place for link 0 and one for each node that a record may have; there are as many drawers as such nodes
 pub record Sized (x : Cabinet) : Type 0 where
@@ -55,8 +45,12 @@ pub record Filed (x : Cabinet) : Type 0 where
 
 -- the cabinet with link i, from u down to k, as the latest of its drawer
 abbrev pub with_link : Cabinet → ℕ → Key → Key → Cabinet
-with_link x i u k =
-    cabinet (set x.upper i u) (set x.lower i k) (set x.older i (get_or x.latest (drawer u) 0)) (set x.latest (drawer u) i)
+with_link x i u k = record {
+  upper = set x.upper i u;
+  lower = set x.lower i k;
+  older = set x.older i (get_or x.latest (drawer u) 0);
+  latest = set x.latest (drawer u) i;
+}
 
 -- After n links, one more from u to k is filed, unless u or k is 0 and no key: there are r links then.
 pub data Files (n : ℕ) (u k : Key) (x : Cabinet) : Cabinet → ℕ → Type 0 where

@@ -1,12 +1,15 @@
 -- What the program's findings mean: its enums and structs against the definitions of one pass.
-use Rattle.std.specs.Prelude.{◌≡◌, Bool, true, false, ℕ, eqb, length, get_or}
-use Rattle.ccsk.specs.Term.{Term, Key, Node}
+use Rattle.std.specs.Prelude.{◌≡◌, Bool, true, ℕ, ◌==◌, min, Option, Some, None, List, [], ◌∷◌, length}
+use Rattle.ccsk.specs.Term.{Term, Label, Key, Node}
 use Rattle.moves.specs.Choose.{forward_choice, undo_choice, spots}
 use Rattle.moves.specs.Move.{holds, move}
 use Rattle.moves.specs.Move as pass
 use Rattle.findings.specs.declared.Move.{Move}
 use Rattle.findings.specs.declared.Move.TheVariants.{Still, Step, Stuck}
+use Rattle.findings.specs.declared.Places.{Places}
+use Rattle.findings.specs.declared.Places.TheVariants.{Zero, One, Two, More}
 use Rattle.findings.specs.declared.Ask.{Ask}
+use Rattle.findings.specs.declared.Ask.TheVariants.{Undo, Forward}
 use Rattle.findings.specs.declared.Seen.{Seen}
 
 -- the move that the program's answer stands for
@@ -15,23 +18,37 @@ move_of Still = pass.still
 move_of (Step l) = pass.step l
 move_of Stuck = pass.stuck
 
--- the first if the test holds, the second if not
-abbrev pub pick : {A : Type 0} → Bool → A → A → A
-pick true a b = a
-pick false a b = b
+-- its label, if it is a step
+abbrev pub label_of : Move → Option Label
+label_of Still = None
+label_of (Step l) = Some l
+label_of Stuck = None
 
--- the prefixes that are chosen, and the keys with which a chosen one may step: any for an undo, 0 for a forward step
+-- the key that is asked about
+abbrev pub key_asked : Ask → Key
+key_asked (Undo m) = m
+key_asked (Forward p q m) = m
+
+-- the prefixes that are chosen: by key for an undo, by node number for a forward step
 abbrev pub choice_of : Ask → Node → Key → Bool
-choice_of ask n k = pick ask.undo (undo_choice ask.key n k) (forward_choice ask.p ask.q n k)
+choice_of (Undo m) n k = undo_choice m n k
+choice_of (Forward p q m) n k = forward_choice p q n k
 
+-- the keys with which a chosen prefix may step: any for an undo, 0 for a forward step
 abbrev pub may_of : Ask → Key → Bool
-may_of ask k = pick ask.undo true (eqb k 0)
+may_of (Undo m) k = true
+may_of (Forward p q m) k = k == 0
+
+-- the places in a list; of more than two their number in 16 bits and the first two. A readable record has at most 4,096 nodes: there it is the number itself
+abbrev pub places_of : List ℕ → Places
+places_of [] = Zero
+places_of (i ∷ []) = One i
+places_of (i ∷ (j ∷ [])) = Two i j
+places_of (i ∷ (j ∷ (k ∷ l))) = More (min (length (i ∷ (j ∷ (k ∷ l)))) 65535) i j
 
 -- The findings are those of the one pass, for a term whose root is node n and whose bytes begin at the position i.
 pub record Found (ask : Ask) (i : ℕ) (n : Node) (t : Term) (r : Seen) : Type 0 where
   pub any : r.any ≡ holds t
-  pub stands : r.stands ≡ pass.stands ask.key t
-  pub count : r.count ≡ length (spots (choice_of ask) i n t)
-  pub first : r.first ≡ get_or (spots (choice_of ask) i n t) 0 0
-  pub second : r.second ≡ get_or (spots (choice_of ask) i n t) 1 0
+  pub stands : r.stands ≡ pass.stands (key_asked ask) t
+  pub places : r.places ≡ places_of (spots (choice_of ask) i n t)
   pub moved : move_of r.moved ≡ move (choice_of ask) (may_of ask) n t

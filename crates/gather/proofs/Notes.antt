@@ -1,5 +1,6 @@
 -- What is noted of a node, from what it notes itself and what is noted of its children.
-use mathlib.Core.Path.{◌≡◌, refl, sym, subst, ◌∙◌}
+use mathlib.Core.Path.{◌≡◌, refl, sym, ◌∙◌}
+use mathlib.Core.Logic.{◌≢◌}
 use mathlib.Core.List.{List, [], ◌++◌, append-nil, append_assoc}
 use mathlib.Core.Bool.{Bool, true, false, cond, not, ◌||◌}
 use Prim.Native.Nat.{ℕ, zero, suc, ◌+◌, ◌≤◌}
@@ -11,11 +12,13 @@ use lib.ListN.{length, take, length-append}
 use lib.Seq.{length-take-le, set-set, set-get_or}
 use Rattle.ccsk.specs.Term.{Term, Key, Node, nil, pre, cho, par, res, keys, done, size}
 use Rattle.moves.specs.Move.{holds}
-use Rattle.lasts.specs.Last.{Last, Scopes, slot, scope_of, enclosed, last_over_prefix, last_over_choice, lasts}
+use Rattle.lasts.specs.declared.Last.{Last}
+use Rattle.lasts.specs.Last.{Scopes, slot, scope_of, enclosed, last_over_prefix, last_over_choice, lasts}
 use Rattle.noting.specs.declared.Entered.{Entered}
-use Rattle.noting.specs.Node.{key_standing_at, name_at, Enters, closed, OverPrefix, noted_over_two}
+use Rattle.noting.specs.declared.Notes.{Notes}
+use Rattle.noting.specs.Node.{noted_keys, noted_lasts, key_standing_at, name_at, Enters, OverPrefix, OverRestriction, OverTwo}
 use Rattle.noting.proofs.Rows.{cut_back}
-use Rattle.gather.specs.Gather.{Lent, Noted}
+use Rattle.gather.specs.Gather.{Noted}
 
 done_front : (k : Key) (x : List Key) → done k x ≡ done k [] ++ x
 done_front zero x = refl
@@ -62,60 +65,67 @@ lasts_few n s (par t u) = choice_few false false (lasts (n + 1) s t) (lasts (n +
 lasts_few n s (res a t) = lasts_few (n + 1) (enclosed a n s) t
 
 -- what is noted of a node, from what is noted of its children
-abbrev pub arrays : Scopes → List ℕ → List Last → Lent
-arrays c a r = record { scopes = c; all = a; rows = r }
-
-pub noted_nil : (n k l : ℕ) (b : Lent) → Noted n nil k l b k l b
+pub noted_nil : (n : ℕ) (b : Notes) → Noted n nil b b
 unfolding keys lasts
-noted_nil n k l b = record {
+noted_nil n b = record {
   same_scopes = refl;
-  noted_keys = sym (append-nil (take k b.all));
+  more_keys = sym (append-nil (noted_keys b));
   key_count = omega arith;
-  noted_lasts = sym (append-nil (take l b.rows));
+  more_lasts = sym (append-nil (noted_lasts b));
   last_count = omega arith;
 }
 
-module _ (s : List ℕ) (at kind n k l : ℕ) (c : Scopes) (all : List ℕ) (rs : List Last) (h : l ≤ length rs) (all₁ : List ℕ) (r : Entered) (t : Term) where
-  own_prefix : (c₂ : Scopes) (all₂ : List ℕ) (rs₂ rs₃ : List Last) (k₂ l₂ l₃ : ℕ) → kind ≡ 1 → take r.keys all₁ ≡ take k all ++ done (key_standing_at s at) [] → r.keys ≡ k + length (done (key_standing_at s at) [])
-      → Noted (n + 1) t r.keys l (arrays c all₁ rs) k₂ l₂ (arrays c₂ all₂ rs₂) → OverPrefix s at r.keys k₂ l l₂ rs₂ c l₃ rs₃
-      → Noted n (pre (name_at s at) (key_standing_at s at) t) k l (arrays c all rs) k₂ l₃ (arrays c₂ all₂ rs₃)
+-- a node that is entered, its first child, and the node left
+module _ (s : List ℕ) (at kind n : ℕ) (b b₁ b₂ : Notes) (r : Entered) (t : Term) (E : Enters s at kind n b b₁ r) (N : Noted (n + 1) t b₁ b₂) where
+  abbrev same : (c : Scopes) → Type 0
+  same c = (noted_lasts b₂ ≡ noted_lasts b ++ lasts (n + 1) c t) × (b₂.last_count ≡ b.last_count + length (lasts (n + 1) c t))
+
+  -- no last is noted as the node is entered
+  below : (c : Scopes) → b₁.scopes ≡ c → same c
+  below c e = (rw (E.same_lasts.0, E.same_lasts.1, e) at N.more_lasts, rw (E.same_lasts.1, e) at N.last_count)
+
+  pub noted_prefix : kind ≡ 1 → b.last_count ≤ length b.lasts → (b₃ : Notes) → OverPrefix s at r b₂ b₃ → Noted n (pre (name_at s at) (key_standing_at s at) t) b b₃
   unfolding keys lasts
-  own_prefix c₂ all₂ rs₂ rs₃ k₂ l₂ l₃ q e f N O = let w = O (take l rs) (lasts (n + 1) c t) (length-take-le l rs h) N.last_count N.noted_lasts in
-      let g : holds t ≡ not (eqb k₂ r.keys) = holds_counted t r.keys k₂ N.key_count in record {
-        same_scopes = N.same_scopes;
-        noted_keys = N.noted_keys ∙ rw (e, append_assoc (take k all) (done (key_standing_at s at) []) (keys t), ← done_front (key_standing_at s at) (keys t));
-        key_count = rw (done_front (key_standing_at s at) (keys t), length-append (done (key_standing_at s at) []) (keys t)) (omega (arith, N.key_count));
-        noted_lasts = rw g w.0;
-        last_count = rw g w.1;
+  noted_prefix q h b₃ O =
+      let e : b₁.scopes ≡ b.scopes = E.unopened (λ z. omega arith) in
+      let f : b₂.scopes ≡ b.scopes = N.same_scopes ∙ e in
+      let x = below b.scopes e in
+      let w = O.2 (noted_lasts b) (lasts (n + 1) b.scopes t) (length-take-le b.last_count b.lasts h ∙ sym E.counts.1) (rw E.counts.1 x.1) x.0 in
+      let g : holds t ≡ not (eqb b₂.key_count r.keys) = rw E.counts.0 (holds_counted t b₁.key_count b₂.key_count N.key_count) in record {
+        same_scopes = O.0 ∙ f;
+        more_keys = rw (O.1.0, O.1.1) (N.more_keys ∙ rw ((E.noted q).0, append_assoc (noted_keys b) (done (key_standing_at s at) []) (keys t), ← done_front (key_standing_at s at) (keys t)));
+        key_count = rw (O.1.1, done_front (key_standing_at s at) (keys t), length-append (done (key_standing_at s at) []) (keys t)) (omega (arith, N.key_count, (E.noted q).1));
+        more_lasts = rw g (rw f at w.0);
+        last_count = rw (g, ← E.counts.1) (rw f at w.1);
       }
 
-  pub noted_prefix : (c₁ c₂ : Scopes) (all₂ : List ℕ) (rs₂ rs₃ : List Last) (k₂ l₂ l₃ : ℕ) → kind ≡ 1 → Enters s at kind n k all all₁ c c₁ r
-      → Noted (n + 1) t r.keys l (arrays c₁ all₁ rs) k₂ l₂ (arrays c₂ all₂ rs₂) → OverPrefix s at r.keys k₂ l l₂ rs₂ c₂ l₃ rs₃
-      → Noted n (pre (name_at s at) (key_standing_at s at) t) k l (arrays c all rs) k₂ l₃ (arrays c₂ all₂ rs₃)
-  noted_prefix c₁ c₂ all₂ rs₂ rs₃ k₂ l₂ l₃ q E N O = let e : c₁ ≡ c = E.unopened (λ z. omega arith) in
-      own_prefix c₂ all₂ rs₂ rs₃ k₂ l₂ l₃ q (E.noted q) (E.counted q)
-      (subst (λ (x : Scopes). Noted (n + 1) t r.keys l (arrays x all₁ rs) k₂ l₂ (arrays c₂ all₂ rs₂)) e N)
-      (subst (λ (x : Scopes). OverPrefix s at r.keys k₂ l l₂ rs₂ x l₃ rs₃) (N.same_scopes ∙ e) O)
-
-  pub noted_restriction : (c₁ c₂ c₃ : Scopes) (all₂ : List ℕ) (rs₂ : List Last) (k₂ l₂ : ℕ) → kind ≡ 4 → Enters s at kind n k all all₁ c c₁ r
-      → Noted (n + 1) t r.keys l (arrays c₁ all₁ rs) k₂ l₂ (arrays c₂ all₂ rs₂) → c₃ ≡ closed (name_at s at) r.scope c₂
-      → Noted n (res (name_at s at) t) k l (arrays c all rs) k₂ l₂ (arrays c₃ all₂ rs₂)
+  pub noted_restriction : kind ≡ 4 → (b₃ : Notes) → OverRestriction s at r b₂ b₃ → Noted n (res (name_at s at) t) b b₃
   unfolding keys lasts
-  noted_restriction c₁ c₂ c₃ all₂ rs₂ k₂ l₂ q E N f = let o = E.other (λ z. omega arith) in let e = E.opened q in record {
-    same_scopes = f ∙ rw (N.same_scopes, e.0, e.1, set-set c (slot (name_at s at)) (n + 1) (scope_of c (name_at s at)), set-get_or c (slot (name_at s at)) 0);
-    noted_keys = rw (o.0, o.1) at N.noted_keys;
-    key_count = rw o.0 at N.key_count;
-    noted_lasts = rw e.0 at N.noted_lasts;
-    last_count = rw e.0 at N.last_count;
+  noted_restriction q b₃ O = let o = E.other (λ z. omega arith) in let e = E.opened q in let x = below (enclosed (name_at s at) n b.scopes) e.0 in record {
+    same_scopes = O.0 ∙ rw (N.same_scopes, e.0, e.1, set-set b.scopes (slot (name_at s at)) (n + 1) (scope_of b.scopes (name_at s at)), set-get_or b.scopes (slot (name_at s at)) 0);
+    more_keys = rw (O.1.0, O.1.1) (rw (o.0, o.1) at N.more_keys);
+    key_count = O.1.1 ∙ rw o.1 at N.key_count;
+    more_lasts = rw (O.2.0, O.2.1) x.0;
+    last_count = O.2.1 ∙ x.1;
+  }
+
+  -- the first side of a choice or a parallel
+  pub noted_first : kind ≢ 1 → kind ≢ 4 → Noted (n + 1) t b b₂
+  noted_first p q = let o = E.other p in let e = E.unopened q in let x = below b.scopes e in record {
+    same_scopes = N.same_scopes ∙ e;
+    more_keys = rw (o.0, o.1) at N.more_keys;
+    key_count = rw o.1 at N.key_count;
+    more_lasts = x.0;
+    last_count = x.1;
   }
 
 -- a parallel or a choice, whose sides are noted one after the other
-module _ (n k l k₁ l₁ k₂ l₂ : ℕ) (t u : Term) (b b₁ b₂ : Lent) (h : l ≤ length b.rows) (N : Noted (n + 1) t k l b k₁ l₁ b₁) (M : Noted (n + 1 + size t) u k₁ l₁ b₁ k₂ l₂ b₂) where
-  both_keys : take k₂ b₂.all ≡ take k b.all ++ (keys t ++ keys u)
-  both_keys = M.noted_keys ∙ rw (N.noted_keys, append_assoc (take k b.all) (keys t) (keys u))
+module _ (n : ℕ) (t u : Term) (b b₁ b₂ b₃ : Notes) (r : Entered) (h : b.last_count ≤ length b.lasts) (N : Noted (n + 1) t b b₁) (M : Noted (n + 1 + size t) u b₁ b₂) (kind : ℕ) (O : OverTwo kind r b₁.key_count b₂ b₃) where
+  both_keys : noted_keys b₃ ≡ noted_keys b ++ (keys t ++ keys u)
+  both_keys = rw (O.1.0, O.1.1) (M.more_keys ∙ rw (N.more_keys, append_assoc (noted_keys b) (keys t) (keys u)))
 
-  both_key_count : k₂ ≡ k + length (keys t ++ keys u)
-  both_key_count = rw (length-append (keys t) (keys u)) (omega (arith, N.key_count, M.key_count))
+  both_key_count : b₃.key_count ≡ b.key_count + length (keys t ++ keys u)
+  both_key_count = rw (O.1.1, length-append (keys t) (keys u)) (omega (arith, N.key_count, M.key_count))
 
   abbrev x : List Last
   x = lasts (n + 1) b.scopes t
@@ -123,34 +133,34 @@ module _ (n k l k₁ l₁ k₂ l₂ : ℕ) (t u : Term) (b b₁ b₂ : Lent) (h 
   abbrev y : List Last
   y = lasts (n + 1 + size t) b.scopes u
 
-  both_lasts : take l₂ b₂.rows ≡ take l b.rows ++ (x ++ y)
-  both_lasts = M.noted_lasts ∙ rw (N.noted_lasts, N.same_scopes, append_assoc (take l b.rows) x y)
+  both_lasts : noted_lasts b₂ ≡ noted_lasts b ++ (x ++ y)
+  both_lasts = M.more_lasts ∙ rw (N.more_lasts, N.same_scopes, append_assoc (noted_lasts b) x y)
 
-  both_last_count : l₂ ≡ l + length (x ++ y)
+  both_last_count : b₂.last_count ≡ b.last_count + length (x ++ y)
   both_last_count = let e = rw N.same_scopes at M.last_count in rw (length-append x y) (omega (arith, N.last_count))
 
-  pub noted_parallel : Noted n (par t u) k l b k₂ l₂ b₂
+  pub noted_parallel : kind ≢ 2 → Noted n (par t u) b b₃
   unfolding keys lasts
-  noted_parallel = record {
-    same_scopes = M.same_scopes ∙ N.same_scopes;
-    noted_keys = both_keys;
+  noted_parallel z = let e : b₃.last_count ≡ b₂.last_count = rw (ne_eqb kind 2 z) at O.3 in record {
+    same_scopes = O.0 ∙ M.same_scopes ∙ N.same_scopes;
+    more_keys = both_keys;
     key_count = both_key_count;
-    noted_lasts = both_lasts;
-    last_count = both_last_count;
+    more_lasts = rw (O.2, e) both_lasts;
+    last_count = e ∙ both_last_count;
   }
 
-  choice_lasts : (f g : Bool) → eqb k₁ k ≡ f → eqb k₂ k₁ ≡ g → (l₃ : ℕ) → l₃ ≡ cond f l₂ (cond g l₂ l)
-      → (take l₃ b₂.rows ≡ take l b.rows ++ last_over_choice (not f) (not g) x y) × (l₃ ≡ l + length (last_over_choice (not f) (not g) x y))
-  choice_lasts true g p q l₃ e = (rw e both_lasts, e ∙ both_last_count)
-  choice_lasts false true p q l₃ e = (rw e both_lasts, e ∙ both_last_count)
-  choice_lasts false false p q l₃ e = (rw e (cut_back l l₂ b₂.rows (take l b.rows) (x ++ y) (length-take-le l b.rows h) (omega (arith, both_last_count)) both_lasts ∙ sym (append-nil (take l b.rows))), omega arith)
+  choice_lasts : (f g : Bool) → (l : ℕ) → l ≡ cond f b₂.last_count (cond g b₂.last_count b.last_count)
+      → (take l b₂.lasts ≡ noted_lasts b ++ last_over_choice (not f) (not g) x y) × (l ≡ b.last_count + length (last_over_choice (not f) (not g) x y))
+  choice_lasts true g l e = (rw e both_lasts, e ∙ both_last_count)
+  choice_lasts false true l e = (rw e both_lasts, e ∙ both_last_count)
+  choice_lasts false false l e = (rw e (cut_back b.last_count b₂.last_count b₂.lasts (noted_lasts b) (x ++ y) (length-take-le b.last_count b.lasts h) (omega (arith, both_last_count)) both_lasts ∙ sym (append-nil (noted_lasts b))), omega arith)
 
-  pub noted_choice : (kind l₃ : ℕ) → kind ≡ 2 → l₃ ≡ noted_over_two kind k k₁ k₂ l l₂ → Noted n (cho t u) k l b k₂ l₃ b₂
+  pub noted_choice : kind ≡ 2 → r.keys ≡ b.key_count → r.lasts ≡ b.last_count → Noted n (cho t u) b b₃
   unfolding keys lasts
-  noted_choice kind l₃ q e = let w = choice_lasts (eqb k₁ k) (eqb k₂ k₁) refl refl l₃ (rw (eq-eqb kind 2 q) at e) in record {
-    same_scopes = M.same_scopes ∙ N.same_scopes;
-    noted_keys = both_keys;
+  noted_choice q i j = let w = choice_lasts (eqb b₁.key_count b.key_count) (eqb b₂.key_count b₁.key_count) b₃.last_count (rw (eq-eqb kind 2 q, i, j) at O.3) in record {
+    same_scopes = O.0 ∙ M.same_scopes ∙ N.same_scopes;
+    more_keys = both_keys;
     key_count = both_key_count;
-    noted_lasts = rw (holds_counted t k k₁ N.key_count, holds_counted u k₁ k₂ M.key_count) w.0;
-    last_count = rw (holds_counted t k k₁ N.key_count, holds_counted u k₁ k₂ M.key_count) w.1;
+    more_lasts = rw (O.2, holds_counted t b.key_count b₁.key_count N.key_count, holds_counted u b₁.key_count b₂.key_count M.key_count) w.0;
+    last_count = rw (holds_counted t b.key_count b₁.key_count N.key_count, holds_counted u b₁.key_count b₂.key_count M.key_count) w.1;
   }

@@ -1,22 +1,10 @@
--- What `index` has answered, once its case is known.
-use mathlib.Core.Path.{◌≡◌, subst}
-use mathlib.Core.List.{List}
-use Prim.Native.Nat.{ℕ}
+-- The part at the root of the rows.
 use native.Mathlib.Omega.{arith}
+use Prim.Native.Nat.{ℕ}
 use Rattle.ccsk.specs.Term.{Term}
-use Rattle.format.specs.Read.{Reads, Refuses}
-use Rattle.offers.specs.Forms.{Part}
-use Rattle.shared.specs.declared.Number.{Number}
-use Rattle.shared.specs.declared.Number.TheVariants as number
-use Rattle.index.specs.Whole.{Rows, Indexes}
-
-module _ (s F A E : List ℕ) (r : Number) (I : Indexes s F A E r) where
-  pub index_refused : (c : ℕ) → r ≡ number.Refused c → Refuses s c
-  index_refused c e = subst (Indexes s F A E) e I
-
-  pub index_filled : (n : ℕ) → r ≡ number.Is n → (t : Term) × Reads s t × Rows t n F A E
-  index_filled n e = subst (Indexes s F A E) e I
+use Rattle.index.specs.declared.Rows.{Rows}
+use Rattle.index.specs.Whole.{RowsOf, PartAt}
 
 -- the whole term is the part that begins at node 0
-pub rows_part : {t : Term} {n : ℕ} {F A E : List ℕ} → Rows t n F A E → Part F A E 0 t
-rows_part R = record { lines = R.lines; range = R.fits.range; nodes = omega (arith, R.fits.nodes) }
+pub rows_part : {t : Term} {n : ℕ} {R : Rows} → RowsOf t n R → PartAt R 0 t
+rows_part W = record { lines = W.lines; range = W.fits.range; nodes = omega (arith, W.fits.nodes) }

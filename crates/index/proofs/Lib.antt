@@ -2,3 +2,4 @@
 pub mod Noting
 pub mod Settling
 pub mod Answers
+pub mod FormNumbers

@@ -2,11 +2,12 @@
 use mathlib.Core.Path.{◌≡◌, refl, sym, ap, subst, ◌∙◌}
 use mathlib.Core.Logic.{◌⊎◌}
 use mathlib.Core.List.{List, [], ◌∷◌, ◌++◌}
-use Prim.Native.Nat.{ℕ, zero, suc, ◌+◌, ◌<◌}
+use Prim.Native.Nat.{ℕ, zero, suc, ◌+◌, ◌≤◌, ◌<◌}
 use native.Mathlib.Omega.{arith}
-use lib.ListN.{length, get_or}
+use lib.ListN.{length, get_or, take, length-take}
 use Rattle.ccsk.specs.Numbers.{In}
 use Rattle.ccsk.specs.Term.{Term, Key, Node, nil, pre, cho, par, res, size}
+use Rattle.format.specs.Limits.{node_limit}
 use Rattle.causes.specs.Entry.{Entry, Scopes, under, open_scopes, marked, entries, all}
 use Rattle.causes.specs.Links.{key_column, renamed}
 use Rattle.causes.proofs.Renaming.{Known, all_known}
@@ -18,7 +19,22 @@ use Rattle.pairs.specs.Rows.{table}
 use Rattle.slots.specs.Slot.{Renamed, Numberable, Numbered}
 use Rattle.ccsk.proofs.Lists.{get_or_in}
 use Rattle.verdict.specs.Laid.{Laid}
-use Rattle.judge.specs.Judge.{Begun, Sheet, Slotted}
+use Rattle.judge.specs.Judge.{Begun}
+use Rattle.lay.specs.declared.Sheet.{Sheet}
+use Rattle.lay.specs.Lay.{AllLaid}
+
+-- the columns are the entries of the term
+pub record Listed (t : Term) (ks acs es ss us : List ℕ) : Type 0 where
+  pub few : length ks ≤ node_limit
+  pub keys : ks ≡ column (λ e. e.key) (all t)
+  pub actions : acs ≡ column (λ e. e.action) (all t)
+  pub ends : es ≡ column (λ e. e.end) (all t)
+  pub scopes : ss ≡ column (λ e. e.scope) (all t)
+  pub ups : us ≡ column (λ e. e.up) (all t)
+
+-- the first rows of a sheet
+pub listed : (t : Term) (r : ℕ) (x : Sheet) → AllLaid t r x → Listed t (take r x.keys) (take r x.actions) (take r x.ends) (take r x.scopes) (take r x.ups)
+listed t r x A = record { few = omega (arith, A.few, length-take r x.keys); keys = A.keys; actions = A.actions; ends = A.ends; scopes = A.scopes; ups = A.ups }
 
 -- what holds of every entry
 abbrev Each : (Entry → ℕ → Type 0) → ℕ → List Entry → Type 0
@@ -78,7 +94,7 @@ table_renamed f i (e ∷ l) (k ∷ ks) [] p q r = absurd (omega (arith, r.0))
 table_renamed f i (e ∷ l) (k ∷ ks) (u ∷ us) p q r = let a : k ≡ f e.key = q.1 0 (omega arith) in let b : u ≡ f e.up = r.1 0 (omega arith) in
     let z = table_renamed f (suc i) l ks us p.1 (rest f e.key k (column (λ e. e.key) l) ks q) (rest f e.up u (column (λ e. e.up) l) us r) in rw (a, b, p.0.0, z)
 
-module _ (t : Term) (ks acs es ss us : List ℕ) (S : Sheet t ks acs es ss us) where
+module _ (t : Term) (ks acs es ss us : List ℕ) (S : Listed t ks acs es ss us) where
   pub numberable : Numberable ks us
   numberable = record {
     keys = subst Positive (sym S.keys) (positive 0 (all t) (stand 0 0 0 open_scopes t));
@@ -108,5 +124,5 @@ module _ (t : Term) (ks acs es ss us : List ℕ) (S : Sheet t ks acs es ss us) w
       few = omega (arith, N.few, S.few);
     }
 
-    pub slotted : Begun t → Slotted n ks' acs es ss us'
+    pub slotted : Begun t → (length ks' ≤ node_limit) × (n ≤ node_limit + 1) × ((u : Term) × Laid u n ks' acs es ss us' × Begun u)
     slotted b = (omega (arith, N.keys.0, S.few), omega (arith, N.few, S.few), (t, laid, b))

@@ -1,82 +1,106 @@
 -- The verdict step by step: the pairs and the order, the columns.
-use mathlib.Core.Path.{◌≡◌, refl, sym, subst, ◌∙◌}
+use mathlib.Core.Path.{◌≡◌, refl, sym, ap, ◌∙◌, subst}
 use mathlib.Core.Logic.{⊎_elim}
 use mathlib.Core.List.{List}
-use mathlib.Core.Bool.{Bool, true, false, true≢false}
+use mathlib.Core.Bool.{Bool, true, false, true≢false, false≢true}
 use Prim.Native.Nat.{ℕ, ◌≤◌, ◌<◌}
 use native.Mathlib.Omega.{arith}
-use lib.ListN.{length, take, replicate, length-replicate, get_or-replicate}
+use lib.ListN.{length, take, get_or, replicate, length-replicate, get_or-replicate}
 use lib.Seq.{length-take-le, get_or-take}
-use Rattle.ccsk.specs.Term.{Term}
-use Rattle.format.specs.Limits.{node_limit}
-use Rattle.causes.specs.Tests.{Tested}
+use Rattle.std.specs.Prelude.{Option, Some, None}
+use Rattle.std.specs.Option.{is_some}
+use Rattle.cycles.specs.declared.Pair.{Pair}
+use Rattle.cycles.specs.Pair.{firsts, seconds}
+use Rattle.cycles.proofs.Pairs.{nothing, firsts-length, seconds-length, first_at, second_at}
+use Rattle.pairs.specs.declared.Columns.{Columns}
+use Rattle.pairs.specs.declared.Condition.{Condition}
+use Rattle.pairs.specs.declared.Condition.TheVariants.{Twice}
+use Rattle.pairs.specs.Condition.{number_of, verdict}
 use Rattle.pairs.specs.Rows.{Indexed}
 use Rattle.pairs.specs.Cause.{CauseBelow}
-use Rattle.pairs.specs.Answer.{Zero}
-use Rattle.verdict.specs.Sheet.{Blank, Pairing, Noted, Ordering}
+use Rattle.verdict.specs.Sheet.{Pairing, Noted, Ordering}
 use Rattle.verdict.proofs.Verdicts.{verdict_3, verdict_4_to_6, asked, verdict_7, verdict_0}
-use Rattle.lay.specs.Lay.{AllLaid}
-use Rattle.judge.specs.Judge.{Sheet, Slotted, Decided, Room}
+use Rattle.judge.specs.Judge.{Slotted, Decided, Room}
 
-module _ (ks acs es ss us first₀ second₀ : List ℕ) (c q : ℕ) (w : Slotted (length first₀) ks acs es ss us) (R : Room first₀ second₀ c q) where
-  pub blank : Blank ks acs es ss first₀ second₀
-  blank = let l = w.2.1 in record {
-    keys_below = l.keys_below;
-    few = omega (arith, w.0);
-    actions = l.square.actions;
-    ends = l.square.ends;
-    scopes = l.square.scopes;
-    alike = R.alike;
-    first_zero = R.first_zero;
-    second_zero = R.second_zero;
-  }
+-- an answer is there, or none
+some : (r : Option Condition) → is_some r ≡ true → (d : Condition) × (r ≡ Some d)
+some None h = absurd (false≢true h)
+some (Some d) h = (d, refl)
 
-  module _ (first second : List ℕ) (n : length first ≡ length first₀) (r : ℕ) (P : Pairing ks acs es ss first second r) where
+pub none : (r : Option Condition) → is_some r ≡ false → r ≡ None
+none None h = refl
+none (Some d) h = absurd (true≢false h)
+
+module _ (x : Columns) (rows₀ : List Pair) (w : Slotted (length rows₀) x) where
+  abbrev ks : List ℕ
+  ks = x.keys.now
+
+  abbrev acs : List ℕ
+  acs = x.actions.now
+
+  abbrev es : List ℕ
+  es = x.ends.now
+
+  abbrev ss : List ℕ
+  ss = x.scopes.now
+
+  abbrev us : List ℕ
+  us = x.ups.now
+
+  module _ (rows : List Pair) (n : length rows ≡ length rows₀) (r : Option Condition) (P : Pairing x rows r) where
+    below : CauseBelow (length rows) acs es ss (firsts rows) (seconds rows) r → CauseBelow (length (firsts rows)) acs es ss (firsts rows) (seconds rows) r
+    below = subst (λ (j : ℕ). CauseBelow j acs es ss (firsts rows) (seconds rows) r) (sym (firsts-length rows))
+
+    long : length (firsts rows) ≡ length rows₀
+    long = firsts-length rows ∙ n
+
     -- one of the conditions 3 to 6 fails
-    pub decided_early : r < 7 → Decided (length first₀) ks acs es ss us r
-    decided_early h t l b = ⊎_elim (λ p. subst (Tested t) (sym p.0) (verdict_3 t (length first₀) ks acs es ss us first second l n b.waiting b.choosing p.1 p.2))
-        (λ p. verdict_4_to_6 t (length first₀) ks acs es ss us first second l n b.waiting b.choosing p.0 r p.1 h) P
+    pub decided_early : (d : Condition) → r ≡ Some d → Decided (length rows₀) x (number_of d)
+    decided_early d h t l b = ⊎_elim (λ p. let e : d ≡ Twice = cc in rw e (verdict_3 t (length rows₀) ks acs es ss us (firsts rows) (seconds rows) l long b.waiting b.choosing p.1 p.2))
+        (λ p. verdict_4_to_6 t (length rows₀) ks acs es ss us (firsts rows) (seconds rows) l long b.waiting b.choosing p.0 r (below p.1) d h) P
 
-    module _ (h : 7 ≤ r) where
-      noted_rows : Indexed ks first second × CauseBelow (length first) acs es ss first second r
-      noted_rows = ⊎_elim (λ p. absurd (omega (arith, p.0))) (λ p. p) P
+    pub decided_found : is_some r ≡ true → Decided (length rows₀) x (verdict r)
+    decided_found h = let w = some r h in rw w.1 (decided_early w.0 w.1)
 
-      pub may_order : Noted us first second
-      may_order = let v = w.2 in asked v.0 (length first₀) ks acs es ss us first second v.1 n v.2.waiting v.2.choosing noted_rows.0 r noted_rows.1
+    module _ (h : r ≡ None) where
+      noted_rows : Indexed ks (firsts rows) (seconds rows) × CauseBelow (length (firsts rows)) acs es ss (firsts rows) (seconds rows) r
+      noted_rows = ⊎_elim (λ p. absurd (let e = p.0 in cc)) (λ p. (p.0, below p.1)) P
 
-      module _ (one two : List ℕ) (a : Bool) (O : Ordering us first second one two a) where
-        pub decided_cycle : a ≡ false → Decided (length first₀) ks acs es ss us 7
-        decided_cycle e t l b = verdict_7 t (length first₀) ks acs es ss us first second l n b.waiting b.choosing noted_rows.0 r noted_rows.1 h one two O.once O.twice
+      pub may_order : Noted us (firsts rows) (seconds rows)
+      may_order = let v = w.2 in asked v.0 (length rows₀) ks acs es ss us (firsts rows) (seconds rows) v.1 long v.2.waiting v.2.choosing noted_rows.0 r noted_rows.1
+
+      module _ (one two : List ℕ) (a : Bool) (O : Ordering us (firsts rows) (seconds rows) one two a) where
+        pub decided_cycle : a ≡ false → Decided (length rows₀) x 7
+        decided_cycle e t l b = verdict_7 t (length rows₀) ks acs es ss us (firsts rows) (seconds rows) l long b.waiting b.choosing noted_rows.0 r noted_rows.1 h one two O.once O.twice
             (λ z. true≢false (sym (O.tells.1 z) ∙ e))
 
-        pub decided_sound : a ≡ true → Decided (length first₀) ks acs es ss us 0
-        decided_sound e t l b = verdict_0 t (length first₀) ks acs es ss us first second l n b.waiting b.choosing noted_rows.0 r noted_rows.1 h one two O.once O.twice (O.tells.0 e)
+        pub decided_sound : a ≡ true → Decided (length rows₀) x (verdict r)
+        decided_sound e = rw h sound
+          where
+            sound : Decided (length rows₀) x 0
+            sound t l b = verdict_0 t (length rows₀) ks acs es ss us (firsts rows) (seconds rows) l long b.waiting b.choosing noted_rows.0 r noted_rows.1 h one two O.once O.twice (O.tells.0 e)
 
-abbrev zeros : ℕ → List ℕ
-zeros n = replicate n 0
-
--- room of n places, cut from N zeros
+-- room of n places, cut from N
 module _ (n N : ℕ) (h : n ≤ N) where
-  pub cut_length : n ≡ length (take n (zeros N))
-  cut_length = sym (length-take-le n (zeros N) (omega (arith, length-replicate {A = ℕ} N 0)))
+  abbrev pub blanks : List Pair
+  blanks = take n (replicate N nothing)
 
-  cut_zero : Zero (take n (zeros N))
-  cut_zero k l = let z = cut_length in get_or-take n (zeros N) k 0 (omega arith) ∙ get_or-replicate {A = ℕ} N k 0 0 (omega arith)
+  abbrev pub zeros : List ℕ
+  zeros = take n (replicate {A = ℕ} N 0)
 
-  pub cut_room : Room (take n (zeros N)) (take n (zeros N)) (length (take n (zeros N))) (length (take n (zeros N)))
-  cut_room = record { alike = refl; first_zero = cut_zero; second_zero = cut_zero; counted = refl; queued = omega arith }
+  pub cut_length : n ≡ length zeros
+  cut_length = sym (length-take-le n (replicate {A = ℕ} N 0) (omega (arith, length-replicate {A = ℕ} N 0)))
 
-  module _ (ks acs es ss us : List ℕ) where
-    pub cut_slotted : Slotted n ks acs es ss us → Slotted (length (take n (zeros N))) ks acs es ss us
-    cut_slotted = subst (λ (m : ℕ). Slotted m ks acs es ss us) cut_length
+  pub cut_blanks : n ≡ length blanks
+  cut_blanks = sym (length-take-le n (replicate N nothing) (omega (arith, length-replicate {A = Pair} N nothing)))
 
-    pub cut_decided : (r : ℕ) → Decided (length (take n (zeros N))) ks acs es ss us r → Decided n ks acs es ss us r
-    cut_decided r = subst (λ (m : ℕ). Decided m ks acs es ss us r) (sym cut_length)
+  cut_at : (k : ℕ) → k < n → get_or blanks k nothing ≡ nothing
+  cut_at k l = get_or-take n (replicate N nothing) k nothing l ∙ get_or-replicate {A = Pair} N k nothing nothing (omega arith)
 
--- the first rows of the columns
-module _ (t : Term) (r : ℕ) (ks acs es ss us : List ℕ) (A : AllLaid t r ks acs es ss us) where
-  pub front_length : (c : List ℕ) → length c ≡ node_limit → r ≡ length (take r c)
-  front_length c e = sym (length-take-le r c (omega (arith, A.few)))
-
-  pub front : Sheet t (take r ks) (take r acs) (take r es) (take r ss) (take r us)
-  front = record { few = omega (arith, A.few, front_length ks A.whole.keys); keys = A.keys; actions = A.actions; ends = A.ends; scopes = A.scopes; ups = A.ups }
+  pub cut_room : Room blanks (length zeros) (length zeros)
+  cut_room = record {
+    first_zero = λ k l. first_at blanks k ∙ ap (λ (p : Pair). p.first) (cut_at k (omega (arith, firsts-length blanks, cut_blanks)));
+    second_zero = λ k l. second_at blanks k ∙ ap (λ (p : Pair). p.second) (cut_at k (omega (arith, seconds-length blanks, cut_blanks)));
+    counted = omega (arith, cut_blanks, cut_length);
+    queued = omega (arith, cut_blanks, cut_length);
+  }

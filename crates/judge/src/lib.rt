@@ -1,101 +1,76 @@
-// The verdict of a record of which the conditions 1 and 2 hold, over its columns: 0, or 3 to 7.
+// The verdict of a record of which the conditions 1 and 2 hold, over its columns: the lowest of the conditions 3 to 7 that fails.
 // Helpers between crates, with what each asks of its caller.
 #![tactic(auto)]
 
 ghost use Rattle.std.specs.Prelude.{length};
-ghost use Rattle.judge.specs.Judge.{Fair, Judged, Spread, Settled, Slotted, Decided, Room};
+ghost use Rattle.pairs.specs.Condition.{verdict};
+ghost use Rattle.judge.specs.Judge.{Fair, Judged, Slotted, Decided, Room};
 
+use cycles::Pair;
+use lay::Sheet;
+use pairs::{Columns, Condition};
 use reader::NODES;
 use verdict::{ordering, pairing};
-
-// Verdicts: keys lead in a cycle; nothing fails.
-const CYCLE: u8 = 7;
-
-const SOUND: u8 = 0;
 
 // A number for each key that may stand in a record, and 0.
 const SLOTS: usize = NODES + 1;
 
-// The verdict of columns whose keys are small numbers, with room to work in.
+const NO_ROWS: Pair = Pair {
+    first: 0,
+    second: 0,
+};
+
+// The verdict of columns whose keys are small numbers, with room to work in. It returns early, since a choice as an expression would lose what
+// the tests tell where its branches join.
 fn weigh(
-    keys: &[u16],
-    actions: &[u8],
-    ends: &[u16],
-    scopes: &[u16],
-    ups: &[u16],
-    first: &mut [u16],
-    second: &mut [u16],
+    columns: &Columns,
+    rows: &mut [Pair],
     counters: &mut [u16],
     queue: &mut [u16],
-) -> u8
-    requires slotted { Slotted (length first.old) keys.now actions.now ends.now scopes.now ups.now }
-    requires room { Room first.old second.old (length counters.old) (length queue.old) }
-    ensures { Decided (length first.old) keys.now actions.now ends.now scopes.now ups.now result }
+) -> Option<Condition>
+    requires slotted { Slotted (length rows.old) columns.now }
+    requires room { Room rows.old (length counters.old) (length queue.old) }
+    ensures { Decided (length rows.old) columns.now (verdict result) }
 {
-    let least = pairing(keys, actions, ends, scopes, first, second);
-    if least < CYCLE {
+    let least = pairing(columns, rows);
+    if least.is_some() || ordering(columns.ups, rows, counters, queue) {
         return least;
     }
-    if ordering(ups, first, second, counters, queue) {
-        return SOUND;
-    }
-    CYCLE
+    Some(Condition::Ordered)
 }
 
 // The verdict of columns whose keys are small numbers below `many`.
-fn decide(
-    keys: &[u16],
-    actions: &[u8],
-    ends: &[u16],
-    scopes: &[u16],
-    ups: &[u16],
-    many: usize,
-) -> u8
-    requires { Slotted many keys.now actions.now ends.now scopes.now ups.now }
-    ensures { Decided many keys.now actions.now ends.now scopes.now ups.now result }
+fn decide(columns: &Columns, many: usize) -> Option<Condition>
+    requires { Slotted many columns.now }
+    ensures { Decided many columns.now (verdict result) }
 {
-    let mut first = [0u16; SLOTS];
-    let mut second = [0u16; SLOTS];
+    let mut rows = [NO_ROWS; SLOTS];
     let mut counters = [0u16; SLOTS];
     let mut queue = [0u16; SLOTS];
     weigh(
-        keys,
-        actions,
-        ends,
-        scopes,
-        ups,
-        &mut first[..many],
-        &mut second[..many],
+        columns,
+        &mut rows[..many],
         &mut counters[..many],
         &mut queue[..many],
     )
 }
 
-// The verdict of columns; their keys and the keys right above become small numbers.
-fn settle(keys: &mut [u16], actions: &[u8], ends: &[u16], scopes: &[u16], ups: &mut [u16]) -> u8
-    requires { Spread keys.old actions.now ends.now scopes.now ups.old }
-    ensures { Settled keys.old actions.now ends.now scopes.now ups.old result }
-{
-    let many = slots::number(keys, ups);
-    decide(keys, actions, ends, scopes, ups, many)
-}
-
-// The verdict of a readable record of which the conditions 1 and 2 hold.
-pub fn judge(s: &[u8]) -> u8
+// The verdict of a readable record of which the conditions 1 and 2 hold. Its keys become small numbers.
+pub fn judge(s: &[u8]) -> Option<Condition>
     requires { Fair s.now }
-    ensures { Judged s.now result }
+    ensures { Judged s.now (verdict result) }
 {
-    let mut keys = [0u16; NODES];
-    let mut actions = [0u8; NODES];
-    let mut ends = [0u16; NODES];
-    let mut scopes = [0u16; NODES];
-    let mut ups = [0u16; NODES];
-    let rows = lay::lay_all(s, &mut keys, &mut actions, &mut ends, &mut scopes, &mut ups);
-    settle(
-        &mut keys[..rows],
-        &actions[..rows],
-        &ends[..rows],
-        &scopes[..rows],
-        &mut ups[..rows],
-    )
+    let mut sheet = Sheet::new();
+    let rows = sheet.lay_all(s);
+    let keys = &mut sheet.keys[..rows];
+    let ups = &mut sheet.ups[..rows];
+    let many = slots::number(keys, ups);
+    let columns = Columns {
+        keys,
+        actions: &sheet.actions[..rows],
+        ends: &sheet.ends[..rows],
+        scopes: &sheet.scopes[..rows],
+        ups,
+    };
+    decide(&columns, many)
 }

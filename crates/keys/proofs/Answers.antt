@@ -9,29 +9,21 @@ use Rattle.ccsk.specs.Numbers.{In}
 use Rattle.ccsk.specs.Term.{Term, Key, keys}
 use Rattle.ccsk.proofs.Lists.{distinct-length, least_free_lem}
 use Rattle.ccsk.proofs.Keys.{keys_few}
-use Rattle.format.specs.Read.{Reads, Refuses}
+use Rattle.format.specs.Read.{Reads}
 use Rattle.operations.specs.Ask as ask
 use Rattle.operations.specs.Change as change
 use Rattle.keyset.specs.Set.{member, added, Missing, LeastMissing}
 use Rattle.keyset.proofs.Sets.{added_same, added_other}
 use Rattle.keyset.proofs.Steps.{within}
-use Rattle.shared.specs.declared.Number.{Number}
-use Rattle.shared.specs.declared.Number.TheVariants.{Refused, Is}
-use Rattle.shared.specs.Number.{refusal, value}
+use Rattle.std.specs.Prelude.{Result, Ok, Err}
+use Rattle.shared.specs.declared.Refusal.{Refusal}
+use Rattle.shared.specs.Refusal.{refusal, value}
 use Rattle.keys.specs.Gather.{Scanned, Gathered, Cleared}
 use Rattle.keys.proofs.Marks.{not_both}
 
--- the answer of `gather`, once its case is known
-module _ (s m : List ℕ) (r : Number) (G : Gathered s m r) where
-  pub gathered_refused : (c : ℕ) → r ≡ Refused c → Refuses s c
-  gathered_refused c e = subst (Gathered s m) e G
-
-  pub gathered : (n : ℕ) → r ≡ Is n → Scanned s m n
-  gathered n e = subst (Gathered s m) e G
-
-pub counted : (s m : List ℕ) (r : Number) → Gathered s m r → ask.KeyCount s (refusal r) (value r)
-counted s m (Refused c) g = ask.KeyCount.unreadable g
-counted s m (Is n) g = rw g.count (ask.KeyCount.done g.whole.reads)
+pub counted : (s m : List ℕ) (r : Result ℕ Refusal) → Gathered s m r → ask.KeyCount s (refusal r) (value r)
+counted s m (Err r) g = ask.KeyCount.unreadable g
+counted s m (Ok n) g = rw g.count (ask.KeyCount.done g.whole.reads)
 
 module _ (s m : List ℕ) (n : ℕ) (S : Scanned s m n) where
   -- with 0 put in, a key above 0 is in the set if it stands in the record

@@ -1,34 +1,14 @@
 -- The key of the node at a place, by its bytes, the bytes with that key cleared, and the node's end.
 use mathlib.Core.Path.{◌≡◌, refl, ap, subst, ◌∙◌}
-use mathlib.Core.Bool.{Bool, true, false}
 use mathlib.Core.List.{List}
 use Prim.Native.Nat.{ℕ, ◌+◌, ◌≤◌, ◌<◌}
 use native.Mathlib.Omega.{arith}
-use borrow.Author.Tests.{eq-eqb, ne_eqb}
-use lib.ListN.{length, get_or, set}
+use lib.ListN.{length, get_or}
 use Rattle.ccsk.specs.Term.{Term}
-use Rattle.format.specs.Read.{key_of}
-use Rattle.format.specs.Flat.{Due, key_at}
+use Rattle.format.specs.Flat.{Due}
 use Rattle.format.specs.Kinds.{length_of_body}
 use Rattle.format.proofs.Flat.{kind_known, ends_within}
-use Rattle.keys.specs.Gather.{cleared_at, end_at, Within}
-use Rattle.keys.specs.Erase.{erased_at}
-
-pub key_of_prefix : (s : List ℕ) (at k : ℕ) → get_or s at 0 ≡ 1 → k ≡ key_of (get_or s (at + 2) 0) (get_or s (at + 3) 0) → k ≡ key_at s at
-key_of_prefix s at k e q = q ∙ rw (eq-eqb (get_or s at 0) 1 e)
-
-pub key_of_other : (s : List ℕ) (at : ℕ) → (get_or s at 0 ≡ 1 → ⊥) → 0 ≡ key_at s at
-key_of_other s at e = rw (ne_eqb (get_or s at 0) 1 e)
-
-pub cleared_prefix : (s : List ℕ) (at : ℕ) → get_or s at 0 ≡ 1 → set (set s (at + 2) 0) (at + 3) 0 ≡ cleared_at s at
-cleared_prefix s at e = rw (eq-eqb (get_or s at 0) 1 e)
-
-pub cleared_other : (s : List ℕ) (at : ℕ) → (get_or s at 0 ≡ 1 → ⊥) → s ≡ cleared_at s at
-cleared_other s at e = rw (ne_eqb (get_or s at 0) 1 e)
-
-pub erased_other : (s : List ℕ) (at : ℕ) (x : Bool) → (get_or s at 0 ≡ 1 → ⊥) → s ≡ erased_at x s at
-erased_other s at true e = cleared_other s at e
-erased_other s at false e = refl
+use Rattle.keys.specs.Gather.{end_at, Within}
 
 -- a node of a record that is due is there
 pub due_within : (s : List ℕ) (at : ℕ) → at < length s → (ts : List Term) → Due s at ts → Within s at

@@ -1,14 +1,14 @@
 -- Marked keys: the empty set, a set with one key more, and a set with the front of a column.
 use mathlib.Core.Path.{◌≡◌, refl, sym, ◌∙◌}
 use mathlib.Core.Logic.{◌↔◌}
-use mathlib.Core.List.{List, [], ◌∷◌, append-nil}
+use mathlib.Core.List.{List, [], ◌∷◌}
 use mathlib.Core.Bool.{Bool, true, false, cond}
 use Prim.Native.Nat.{ℕ, zero, suc, ◌+◌, ◌≤◌, ◌<◌}
 use native.Mathlib.Decide.{ℕ_discrete}
 use native.Mathlib.Numerals.{add-one}
 use native.Mathlib.Omega.{arith}
 use lib.ListN.{length, get_or, take, replicate, length-take, length-replicate}
-use lib.Seq.{take-suc, take_all}
+use lib.Seq.{take-suc}
 use Rattle.ccsk.specs.Numbers.{In, distinct}
 use Rattle.ccsk.specs.Term.{Key, done}
 use Rattle.ccsk.proofs.Lists.{in_left, distinct-length}
@@ -65,9 +65,6 @@ module _ (m : List ℕ) (l : List Key) (H : Holds m l) (k : Key) (h : k < 65536)
           let o = added_other m k j (omega (arith, H.whole)) q in
           (λ e. in_left j l (k ∷ []) ((H.exact j b).0 (sym o ∙ e)), λ e. o ∙ (H.exact j b).1 (in_snoc j k l q e))
 
-pub mark-zero : (m : List ℕ) (k : Key) → k ≡ 0 → Marked m k m 0
-mark-zero m k e = rw e (record { one = omega arith; more = λ l H. rw append-nil (H, omega arith) })
-
 -- a key was put in: the set holds it too, and it counts if it is new
 module _ (m : List ℕ) (k : Key) (h : k < 65536) (m' : List ℕ) (r : ℕ) (A : Added m k m' r) where
   pub put_in : (l : List Key) → Holds m l → Holds m' (snoc l k) × (distinct (snoc l k) ≡ distinct l + r)
@@ -93,6 +90,3 @@ front_more ks i m n l h m' r A F = let w = put_in m (get_or ks i 0) h m' r A (ta
 
 pub front_few : (ks : List ℕ) (i : ℕ) (m : List ℕ) (n : ℕ) → Front ks i m n → n ≤ i
 front_few ks i m n F = omega (arith, F.1, distinct-length (take i ks), length-take i ks)
-
-pub front_all : (ks : List ℕ) (i : ℕ) (m : List ℕ) (n : ℕ) → length ks ≤ i → Front ks i m n → Holds m ks × (n ≡ distinct ks)
-front_all ks i m n h F = rw (take_all i ks h) at F

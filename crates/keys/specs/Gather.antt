@@ -1,13 +1,13 @@
 -- What the helpers of the operations on keys promise each other: marked keys, a scanned record, a cleared record.
-use Rattle.std.specs.Prelude.{◌≡◌, ◌↔◌, List, [], ◌++◌, true, cond, ℕ, ◌+◌, ◌≤◌, ◌<◌, eqb, length, get_or, set}
+use Rattle.std.specs.Prelude.{◌≡◌, ◌↔◌, List, [], ◌++◌, true, cond, ℕ, ◌+◌, ◌≤◌, ◌<◌, eqb, length, get_or, set, Result, Ok, Err}
 use Rattle.ccsk.specs.Numbers.{In, distinct}
 use Rattle.ccsk.specs.Term.{Term, Key, keys, done, blank}
 use Rattle.format.specs.Read.{Reads, Refuses}
 use Rattle.format.specs.Encode.{encode, Fits}
 use Rattle.format.specs.Kinds.{length_of_body}
 use Rattle.keyset.specs.Set.{member}
-use Rattle.shared.specs.declared.Number.{Number}
-use Rattle.shared.specs.declared.Number.TheVariants.{Refused, Is}
+use Rattle.shared.specs.declared.Refusal.{Refusal}
+use Rattle.shared.specs.Refusal.{number}
 
 -- The bytes s are the record of the term t.
 pub record RecordOf (s : List ℕ) (t : Term) : Type 0 where
@@ -36,9 +36,9 @@ pub record Scanned (s m : List ℕ) (n : ℕ) : Type 0 where
   pub holds : Holds m (keys of)
 
 -- The same after reading the record, which may be refused.
-abbrev pub Gathered : List ℕ → List ℕ → Number → Type 0
-Gathered s m (Refused c) = Refuses s c
-Gathered s m (Is n) = Scanned s m n
+abbrev pub Gathered : List ℕ → List ℕ → Result ℕ Refusal → Type 0
+Gathered s m (Err r) = Refuses s (number r)
+Gathered s m (Ok n) = Scanned s m n
 
 -- where the node at a place ends, by the byte of kind there
 abbrev pub end_at : List ℕ → ℕ → ℕ

@@ -6,17 +6,17 @@ ghost use Rattle.ccsk.specs.Numbers.{distinct};
 ghost use Rattle.format.specs.Flat.{key_at};
 ghost use Rattle.operations.specs.Ask.{KeyCount, FreeKey};
 ghost use Rattle.operations.specs.Change.{BlankForm};
-ghost use Rattle.shared.specs.Number.{refusal, value};
+ghost use Rattle.shared.specs.Refusal.{refusal, value};
 ghost use Rattle.keyset.specs.Set.{member};
-ghost use Rattle.keys.specs.Erase.{erased_at, Erased};
+ghost use Rattle.keys.specs.Erase.{Erased};
 ghost use Rattle.keys.specs.Gather.{Within, end_at, Readable, Holds, Marked, Scanned, Gathered, cleared_at, Cleared};
 
-use keyset::BYTES;
-use reader::{body_length, other_length};
-use shared::{NOT_DONE, Number, key_of, wide_byte};
+use keyset::KeySet;
+use reader::{Kind, kind_at};
+use shared::{NOT_DONE, Refusal, key_of};
 
-// The kind of a prefix, as a byte.
-const PREFIX: u8 = reader::PREFIX as u8;
+// The byte of a prefix. Some functions here ask that it is whole, and nothing of other bytes, which need not be kinds.
+const PREFIX: u8 = Kind::Prefix as u8;
 
 // The key that the node at `at` holds; 0 if it is no prefix. A helper between crates: the caller has seen that the node's bytes are there.
 pub fn key_at(bytes: &[u8], at: usize) -> u16
@@ -24,109 +24,101 @@ pub fn key_at(bytes: &[u8], at: usize) -> u16
     ensures { result ≡ key_at bytes.now at }
 {
     if bytes[at] == PREFIX {
-        return key_of(bytes[at + 2], bytes[at + 3]);
+        key_of(bytes[at + 2], bytes[at + 3])
+    } else {
+        0
     }
-    0
 }
 
-// Puts a key into the set unless it is 0: how many more keys the set has then, 0 or 1. A helper between crates: the set's array is whole.
-pub fn mark(marks: &mut [u8; BYTES], key: u16) -> usize
-    requires { length marks.old ≡ 8192 }
-    ensures { Marked marks.old key marks.new result }
+// The key of a node, 0 if it is no prefix, and where the next node begins.
+#[derive(Clone, Copy)]
+pub struct Keyed {
+    pub key: u16,
+    pub next: usize,
+}
+
+// The key of the node at `at`, and its end. A helper between crates: the caller has seen that the node's bytes are there. A prefix has a
+// branch of its own, so that the place of the next node waits for no byte.
+pub fn keyed_at(bytes: &[u8], at: usize) -> Keyed
+    requires { Within bytes.now at }
+    ensures { (result.key ≡ key_at bytes.now at) × (result.next ≡ end_at bytes.now at) }
 {
-    if key == NOT_DONE {
-        return 0;
+    match kind_at(bytes, at) {
+        Kind::Prefix => Keyed {
+            key: key_at(bytes, at),
+            next: at + 1 + Kind::Prefix.body(),
+        },
+        Kind::Restriction => Keyed {
+            key: NOT_DONE,
+            next: at + 1 + Kind::Restriction.body(),
+        },
+        _ => Keyed {
+            key: NOT_DONE,
+            next: at + 1,
+        },
     }
-    keyset::add(marks, key)
+}
+
+// Puts a key into the set unless it is 0: how many more keys the set has then, 0 or 1. A helper between crates.
+pub fn mark(marks: &mut KeySet, key: u16) -> usize
+    ensures { Marked marks.old.bytes key marks.new.bytes result }
+{
+    if key == NOT_DONE { 0 } else { marks.add(key) }
 }
 
 // Puts the keys of a column into an empty set: how many different ones there are. A helper between crates.
-pub fn mark_all(column: &[u16], marks: &mut [u8; BYTES]) -> usize
-    requires { Holds marks.old [] }
-    ensures { Holds marks.new column.now × (result ≡ distinct column.now) }
+pub fn mark_all(column: &[u16], marks: &mut KeySet) -> usize
+    requires { Holds marks.old.bytes [] }
+    ensures { Holds marks.new.bytes column.now × (result ≡ distinct column.now) }
 {
-    let mut i: usize = 0;
     let mut n: usize = 0;
-    while i < column.len() {
-        n += keyset::add(marks, column[i]);
-        i += 1;
+    for key in column {
+        n += marks.add(*key);
     }
     n
 }
 
-// How many keys more the set has after a node, and where the next node begins.
-#[derive(Clone, Copy)]
-struct Step {
-    more: usize,
-    next: usize,
-}
-
-// Marks the key of the node at `at`, if it is a prefix. The caller has seen that the node's bytes are there.
-fn mark_at(bytes: &[u8], at: usize, marks: &mut [u8; BYTES]) -> Step
-    requires { Within bytes.now at × (length marks.old ≡ 8192) }
-    ensures { Marked marks.old (key_at bytes.now at) marks.new result.more × (result.next ≡ end_at bytes.now at) }
-{
-    let kind = wide_byte(bytes[at]);
-    if kind == reader::PREFIX {
-        return Step {
-            more: mark(marks, key_at(bytes, at)),
-            next: at + (1 + body_length(reader::PREFIX)),
-        };
-    }
-    Step {
-        more: 0,
-        next: at + (1 + other_length(kind)),
-    }
-}
-
-// Marks the keys of a readable record in an empty set: how many different ones there are.
-fn scan(bytes: &[u8], marks: &mut [u8; BYTES]) -> usize
+// Marks the keys of a readable record in an empty set: how many different ones there are. A walk from node to node, as each node tells where
+// the next one begins.
+fn scan(bytes: &[u8], marks: &mut KeySet) -> usize
     requires readable { Readable bytes.now }
-    requires holds { Holds marks.old [] }
-    ensures { Scanned bytes.now marks.new result }
+    requires holds { Holds marks.old.bytes [] }
+    ensures { Scanned bytes.now marks.new.bytes result }
 {
     let mut at: usize = 0;
     let mut n: usize = 0;
     while at < bytes.len() {
-        let step = mark_at(bytes, at, marks);
-        n += step.more;
-        at = step.next;
+        let node = keyed_at(bytes, at);
+        n += mark(marks, node.key);
+        at = node.next;
     }
     n
 }
 
 // Reads the record and marks its keys in an empty set: the refusal, or how many different ones there are.
-fn gather(bytes: &[u8], marks: &mut [u8; BYTES]) -> Number
-    requires { Holds marks.old [] }
-    ensures { Gathered bytes.now marks.new result }
+fn gather(s: &[u8], marks: &mut KeySet) -> Result<usize, Refusal>
+    requires { Holds marks.old.bytes [] }
+    ensures { Gathered s.now marks.new.bytes result }
 {
-    match reader::read(bytes) {
-        Number::Refused(c) => Number::Refused(c),
-        Number::Is(_) => Number::Is(scan(bytes, marks)),
-    }
+    reader::read(s)?;
+    Ok(scan(s, marks))
 }
 
 // The number of distinct keys of the record.
-pub fn count(bytes: &[u8]) -> Number
+pub fn count(bytes: &[u8]) -> Result<usize, Refusal>
     ensures { KeyCount bytes.now (refusal result) (value result) }
 {
-    let mut marks = [0u8; BYTES];
-    gather(bytes, &mut marks)
+    gather(bytes, &mut KeySet::new())
 }
 
 // The least key that stands nowhere in the record. In the set of its keys and 0, it is the least number that is missing.
-pub fn least_free(bytes: &[u8]) -> Number
+pub fn least_free(bytes: &[u8]) -> Result<usize, Refusal>
     ensures { FreeKey bytes.now (refusal result) (value result) }
 {
-    let mut marks = [0u8; BYTES];
-    match gather(bytes, &mut marks) {
-        Number::Refused(c) => Number::Refused(c),
-        Number::Is(_) => {
-            keyset::add(&mut marks, 0);
-            let free = keyset::least_missing(&marks) as usize;
-            Number::Is(free)
-        }
-    }
+    let mut marks = KeySet::new();
+    gather(bytes, &mut marks)?;
+    marks.add(0);
+    Ok(usize::from(marks.least_missing()))
 }
 
 // Key 0 at the node at `at`, if it is a prefix. The caller has seen that the node's bytes are there.
@@ -140,65 +132,42 @@ fn clear_at(bytes: &mut [u8], at: usize)
     }
 }
 
-// Key 0 at the node at `at`, if its key is in the set. The caller has seen that the node's bytes are there.
-fn erase_at(bytes: &mut [u8], at: usize, marks: &[u8; BYTES])
-    requires { (at < length bytes.old) × (get_or bytes.old at 0 ≡ 1 → at + 3 < length bytes.old) × (length marks.now ≡ 8192) }
-    ensures { bytes.new ≡ erased_at (member marks.now (key_at bytes.old at)) bytes.old at }
-{
-    if keyset::has(marks, key_at(bytes, at)) {
-        clear_at(bytes, at);
-    }
-}
-
-// The same, and answers where the next node begins.
-fn erase_past(bytes: &mut [u8], at: usize, marks: &[u8; BYTES]) -> usize
-    requires { Within bytes.old at × (length marks.now ≡ 8192) }
-    ensures { (bytes.new ≡ erased_at (member marks.now (key_at bytes.old at)) bytes.old at) × (result ≡ end_at bytes.old at) }
-{
-    let kind = wide_byte(bytes[at]);
-    if kind == reader::PREFIX {
-        erase_at(bytes, at, marks);
-        return at + (1 + body_length(reader::PREFIX));
-    }
-    at + (1 + other_length(kind))
-}
-
-// Makes each key of a readable record that is in the set 0, in one pass. A helper between crates: the set's array is whole.
-pub fn erase(bytes: &mut [u8], marks: &[u8; BYTES])
-    requires readable { Readable bytes.old }
-    requires marks_len { length marks.now ≡ 8192 }
-    ensures { Erased (member marks.now) bytes.old bytes.new }
+// Makes each key of a readable record that is in the set 0, in one walk from node to node. A helper between crates.
+pub fn erase(bytes: &mut [u8], marks: &KeySet)
+    requires { Readable bytes.old }
+    ensures { Erased (member marks.now.bytes) bytes.old bytes.new }
 {
     let mut at: usize = 0;
     while at < bytes.len() {
-        at = erase_past(bytes, at, marks);
+        let node = keyed_at(bytes, at);
+        if marks.has(node.key) {
+            clear_at(bytes, at);
+        }
+        at = node.next;
     }
 }
 
-// Marks the keys of a readable record in an empty set and makes each 0, in one pass: how many different ones there were.
-fn wipe(bytes: &mut [u8], marks: &mut [u8; BYTES]) -> usize
+// Marks the keys of a readable record in an empty set and makes each 0, in one walk from node to node: how many different ones there were.
+fn wipe(bytes: &mut [u8], marks: &mut KeySet) -> usize
     requires readable { Readable bytes.old }
-    requires holds { Holds marks.old [] }
-    ensures { Scanned bytes.old marks.new result × Cleared bytes.old bytes.new }
+    requires holds { Holds marks.old.bytes [] }
+    ensures { Scanned bytes.old marks.new.bytes result × Cleared bytes.old bytes.new }
 {
     let mut at: usize = 0;
     let mut n: usize = 0;
     while at < bytes.len() {
-        let step = mark_at(bytes, at, marks);
+        let node = keyed_at(bytes, at);
+        n += mark(marks, node.key);
         clear_at(bytes, at);
-        n += step.more;
-        at = step.next;
+        at = node.next;
     }
     n
 }
 
 // The blank form: every key becomes 0. Answers how many distinct keys that removed.
-pub fn blank(bytes: &mut [u8]) -> Number
+pub fn blank(bytes: &mut [u8]) -> Result<usize, Refusal>
     ensures { BlankForm bytes.old (refusal result) (value result) bytes.new }
 {
-    let mut marks = [0u8; BYTES];
-    match reader::read(bytes) {
-        Number::Refused(r) => Number::Refused(r),
-        Number::Is(_) => Number::Is(wipe(bytes, &mut marks)),
-    }
+    reader::read(bytes)?;
+    Ok(wipe(bytes, &mut KeySet::new()))
 }

@@ -5,3 +5,5 @@ pub mod Steps
 pub mod Members
 pub mod Listing
 pub mod Counts
+pub mod Small
+pub mod Least

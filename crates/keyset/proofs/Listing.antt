@@ -9,7 +9,7 @@ use lib.Dec.{eqb}
 use lib.ListN.{length, get_or, set, drop, length-append, length-set}
 use lib.Seq.{set_at, drop-cons}
 use Rattle.keyset.specs.Set.{bit, member, members_below, Listed, Fronted}
-use Rattle.keyset.proofs.Members.{members_none, members_absent, members_there, members_few, member_at, members_skip, room_for, not_the_end, none_ahead}
+use Rattle.keyset.proofs.Members.{members_none, members_absent, members_there, members_few, member_at, members_skip, room_for, none_ahead}
 
 -- one number more at the front of the row
 pub row_more : (l old row : List ℕ) (n v : ℕ) → n ≡ length l → n < length old → row ≡ l ++ drop n old → set row n v ≡ (l ++ (v ∷ [])) ++ drop (n + 1) old
@@ -72,26 +72,16 @@ module _ (s row₀ : List ℕ) (i m j n : ℕ) (row : List ℕ) (F : Filling s r
   pub few_places : i < 8192 → n ≤ 65536
   few_places h = omega (arith, F.few, F.count, members_few s (i * 8 + j))
 
-  pub byte_done : 8 ≤ j → (old : List ℕ) → Listed s old (i * 8) m row₀ → Listed s old (i * 8 + 8) n row
-  byte_done h old L = let z : j ≡ 8 = omega (arith, F.few) in subst (λ (x : ℕ). Listed s old (i * 8 + x) n row) z (F.onward old L)
-
 pub none_listed : (s row : List ℕ) → Listed s row 0 0 row
 none_listed s row = let e = members_none s in record { count = ap length (sym e); front = ap (λ (l : List ℕ). l ++ row) (sym e); whole = refl }
 
--- From byte i₀ on, the bytes up to i have none of the numbers; the first m of n numbers stand in the row.
-module _ (s old : List ℕ) (i₀ m n : ℕ) (row : List ℕ) (L : Listed s old (i₀ * 8) m row) (c : n ≡ length (members_below s 65536)) (h : m < n) (i : ℕ) (e : members_below s (i * 8) ≡ members_below s (i₀ * 8)) where
-  pub count_there : m ≡ length (members_below s (i * 8))
-  count_there = L.count ∙ ap length (sym e)
-
-  -- the last byte was not passed
-  pub byte_ahead : i ≤ 8192 → i < 8192
-  byte_ahead b = not_the_end s i n m b count_there c h
-
-  pub byte_passed : get_or s i 0 ≡ 0 → members_below s ((i + 1) * 8) ≡ members_below s (i₀ * 8)
-  byte_passed z = members_skip s i z ∙ e
+module _ (s old : List ℕ) (i m : ℕ) (row : List ℕ) (L : Listed s old (i * 8) m row) where
+  -- over a byte with none
+  pub byte_passed : get_or s i 0 ≡ 0 → Listed s old ((i + 1) * 8) m row
+  byte_passed z = listed_same s old (i * 8) m row L ((i + 1) * 8) (members_skip s i z)
 
   pub next_byte : (r : ℕ) (row' : List ℕ) → ((old : List ℕ) → Listed s old (i * 8) m row → Listed s old (i * 8 + 8) r row') → Listed s old ((i + 1) * 8) r row'
-  next_byte r row' f = let z : (i + 1) * 8 ≡ i * 8 + 8 = omega arith in rw z (f old (listed_same s old (i₀ * 8) m row L (i * 8) e))
+  next_byte r row' f = let z : (i + 1) * 8 ≡ i * 8 + 8 = omega arith in rw z (f old L)
 
 -- once n numbers are written, all are
 pub all_listed : (s old : List ℕ) (i m n : ℕ) (row : List ℕ) → i ≤ 8192 → Listed s old (i * 8) m row → n ≡ length (members_below s 65536) → n ≤ m → Fronted (members_below s 65536) old row

@@ -1,10 +1,8 @@
-// A set of keys in a lent array: one bit a key. Helpers between crates; each asks that the array is whole.
+// A set of keys: one bit a key.
 #![tactic(auto)]
 
-ghost use Rattle.std.specs.Prelude.{◌≡◌, List, ℕ, ◌+◌, ◌*◌, ◌<◌, ◌≤◌, eqb, length};
+ghost use Rattle.std.specs.Prelude.{◌≡◌, List, ℕ, ◌+◌, ◌*◌, ◌<◌, ◌≤◌, ◌==◌, not, eqb, length, replicate, position};
 ghost use Rattle.keyset.specs.Set.{bit, power, member, Added, Missing, LeastMissing, members_below, Listed, Fronted};
-
-use shared::wide;
 
 // Every 16-bit key has a bit.
 pub const BYTES: usize = 8192;
@@ -28,82 +26,91 @@ fn with_bit(byte: u8, i: usize) -> u8
     byte + (1u8 << i)
 }
 
-// Whether the key is in the set.
-pub fn has(marks: &[u8; BYTES], key: u16) -> bool
-    requires { length marks.now ≡ 8192 }
-    ensures { result ≡ member marks.now key }
-{
-    let k = wide(key);
-    has_bit(marks[k / 8], k % 8)
+#[derive(Clone, Copy)]
+pub struct KeySet {
+    pub bytes: [u8; BYTES],
 }
 
-// Puts the key into the set: how many more keys the set has then, 0 or 1.
-pub fn add(marks: &mut [u8; BYTES], key: u16) -> usize
-    requires { length marks.old ≡ 8192 }
-    ensures { Added marks.old key marks.new result }
-{
-    let k = wide(key);
-    let at = k / 8;
-    let byte = marks[at];
-    if has_bit(byte, k % 8) {
-        return 0;
+impl KeySet {
+    // The empty set.
+    pub fn new() -> KeySet
+        ensures { result.bytes ≡ replicate 8192 0 }
+    {
+        KeySet { bytes: [0; BYTES] }
     }
-    marks[at] = with_bit(byte, k % 8);
-    1
-}
 
-// The least number that is not in the set; the caller knows that one is missing.
-pub fn least_missing(marks: &[u8; BYTES]) -> u16
-    requires marks_len { length marks.now ≡ 8192 }
-    requires missing { Missing marks.now }
-    ensures { LeastMissing marks.now result }
-{
-    let mut i: usize = 0;
-    while marks[i] == FULL {
-        i += 1;
+    // Whether the key is in the set.
+    pub fn has(&self, key: u16) -> bool
+        ensures { result ≡ member self.now.bytes key }
+    {
+        let k = usize::from(key);
+        has_bit(self.bytes[k / 8], k % 8)
     }
-    let mut k = (i * 8) as u16;
-    while has(marks, k) {
-        k += 1;
-    }
-    k
-}
 
-// Writes the numbers of byte i to the row, from place m on: the place after them. The caller has seen that the row is long enough.
-fn list_byte(marks: &[u8; BYTES], i: usize, m: usize, row: &mut [u16]) -> usize
-    requires marks_len { (length marks.now ≡ 8192) × (i < 8192) × (m ≡ length (members_below marks.now (i * 8))) }
-    requires marks_in_bounds { length (members_below marks.now 65536) ≤ length row.old }
-    ensures { (old : List ℕ) → Listed marks.now old (i * 8) m row.old → Listed marks.now old (i * 8 + 8) result row.new }
-{
-    let byte = marks[i];
-    let mut j: usize = 0;
-    let mut n = m;
-    while j < 8 {
-        if has_bit(byte, j) {
-            row[n] = (i * 8 + j) as u16;
-            n += 1;
-            j += 1;
-            continue;
+    // Puts the key into the set: how many more keys the set has then, 0 or 1.
+    pub fn add(&mut self, key: u16) -> usize
+        ensures { Added self.old.bytes key self.new.bytes result }
+    {
+        let k = usize::from(key);
+        let at = k / 8;
+        let byte = self.bytes[at];
+        if has_bit(byte, k % 8) {
+            return 0;
         }
-        j += 1;
+        self.bytes[at] = with_bit(byte, k % 8);
+        1
     }
-    n
-}
 
-// Writes the n numbers of the set to the front of a row, ascending; the caller has seen that the row is long enough. Bytes with none are
-// passed at once, and those after the last number are not looked at.
-pub fn list(marks: &[u8; BYTES], n: usize, row: &mut [u16])
-    requires marks_len { length marks.now ≡ 8192 }
-    requires n_value { (n ≡ length (members_below marks.now 65536)) × (n ≤ length row.old) }
-    ensures { Fronted (members_below marks.now 65536) row.old row.new }
-{
-    let mut i: usize = 0;
-    let mut m: usize = 0;
-    while m < n {
-        while marks[i] == 0 {
-            i += 1;
+    // The first byte that does not hold all its eight keys.
+    fn byte_with_room(&self) -> Option<usize>
+        ensures { result ≡ position (λ byte. not (byte == 255)) self.now.bytes }
+    {
+        self.bytes.iter().position(|byte| *byte != FULL)
+    }
+
+    // The least number that is not in the set; the caller knows that one is missing.
+    pub fn least_missing(&self) -> u16
+        requires { Missing self.now.bytes }
+        ensures { LeastMissing self.now.bytes result }
+    {
+        let i = self.byte_with_room().unwrap();
+        (i * 8) as u16 + self.bytes[i].trailing_ones() as u16
+    }
+
+    // Writes the numbers of byte i to the row, from place m on: the place after them. The caller has seen that the row is long enough.
+    fn list_byte(&self, i: usize, m: usize, row: &mut [u16]) -> usize
+        requires from { (i < 8192) × (m ≡ length (members_below self.now.bytes (i * 8))) }
+        requires long { length (members_below self.now.bytes 65536) ≤ length row.old }
+        ensures { (old : List ℕ) → Listed self.now.bytes old (i * 8) m row.old → Listed self.now.bytes old (i * 8 + 8) result row.new }
+    {
+        let byte = self.bytes[i];
+        let mut n = m;
+        for j in 0..8 {
+            if has_bit(byte, j) {
+                row[n] = (i * 8 + j) as u16;
+                n += 1;
+            }
         }
-        m = list_byte(marks, i, m, row);
-        i += 1;
+        n
+    }
+
+    // Writes the n numbers of the set to the front of a row, ascending; the caller has seen that the row is long enough. Bytes with none are
+    // passed at once, and those after the last number are not looked at.
+    pub fn list(&self, n: usize, row: &mut [u16])
+        requires { (n ≡ length (members_below self.now.bytes 65536)) × (n ≤ length row.old) }
+        ensures { Fronted (members_below self.now.bytes 65536) row.old row.new }
+    {
+        if n == 0 {
+            return;
+        }
+        let mut m: usize = 0;
+        for i in 0..BYTES {
+            if self.bytes[i] != 0 {
+                m = self.list_byte(i, m, row);
+                if m == n {
+                    return;
+                }
+            }
+        }
     }
 }

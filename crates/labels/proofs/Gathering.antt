@@ -11,14 +11,13 @@ use lib.ListN.{length, get_or}
 use lib.Seq.{get_or-drop}
 use Rattle.ccsk.specs.Term.{Term, Label, Key, nil, pre, cho, par, res, tick, labels}
 use Rattle.ccsk.proofs.Basic.{never}
-use Rattle.format.specs.Limits.{node_limit}
 use Rattle.format.specs.Encode.{encode}
 use Rattle.format.specs.Kinds.{length_of_body}
 use Rattle.format.specs.Flat.{Due, encodes, after, head_kind, head_key, key_at}
 use Rattle.format.proofs.Flat.{key_here, kind_here, ends_within, due_after, none_due, all_due}
 use Rattle.operations.proofs.Readable.{reads_one}
 use Rattle.keys.specs.Gather.{RecordOf, Readable}
-use Rattle.labels.specs.Labels.{no_label, joined, gathered, labels_of, Rising, Noted, Passes, Unlabelled, UndoLabels}
+use Rattle.labels.specs.Labels.{no_label, joined, gathered, labels_of, Rising, Noted, Unlabelled, UndoLabels}
 use Rattle.labels.proofs.Undone.{undo_gathered}
 
 -- the action of the first node, 0 if it is no prefix
@@ -57,67 +56,62 @@ labels_one : (m : Key) (t : Term) → labels_of m (t ∷ []) ≡ labels m t
 unfolding labels_of
 labels_one m t = append-nil (labels m t)
 
--- a node that holds no key is passed, one that holds a key is noted
-module _ (s : List ℕ) (at : ℕ) (h : at < length s) (row : List ℕ) (n : ℕ) (R : Rising row n) (k : Key) (q : k ≡ key_at s at) (ls : List Label) where
-  pub passes_none : k ≡ 0 → Passes s at row n ls ls
-  passes_none z = record {
-    whole = refl;
-    each = λ ts d i l. rw (labels_head (get_or row i 0) (R.positive i l) ts, sym (key_here s at ts d h) ∙ (sym q ∙ z), ne_eqb (get_or row i 0) 0 (never (R.positive i l)));
-  }
+-- The node at a place was passed: what is gathered after it, with what is due then, is what was gathered before it with what was due there.
+abbrev pub Passes : List ℕ → ℕ → List Key → List Label → List Label → Type 0
+Passes s at row ls ls' = (ts : List Term) → Due s at ts → (i : ℕ) → i < length row → gathered (get_or ls' i 0) (labels_of (get_or row i 0) (after ts)) ≡ gathered (get_or ls i 0) (labels_of (get_or row i 0) ts)
 
-  pub is_prefix : (k ≡ 0 → ⊥) → get_or s at 0 ≡ 1
+-- a node that holds no key is passed, one that holds a key is noted
+module _ (s : List ℕ) (at : ℕ) (h : at < length s) (row : List ℕ) (R : Rising row) (k : Key) (q : k ≡ key_at s at) (ls : List Label) where
+  pub passes_none : k ≡ 0 → Passes s at row ls ls
+  passes_none z ts d i l = rw (labels_head (get_or row i 0) (R.positive i l) ts, sym (key_here s at ts d h) ∙ (sym q ∙ z), ne_eqb (get_or row i 0) 0 (never (R.positive i l)))
+
+  is_prefix : (k ≡ 0 → ⊥) → get_or s at 0 ≡ 1
   is_prefix z = pick (ℕ_discrete (get_or s at 0) 1)
     where
       pick : Dec (get_or s at 0 ≡ 1) → get_or s at 0 ≡ 1
       pick (yes e) = e
       pick (no e) = absurd (z (q ∙ rw (ne_eqb (get_or s at 0) 1 e)))
 
-  pub passes_noted : (k ≡ 0 → ⊥) → (ls' : List Label) → Noted row n k (get_or s (at + 1) 0) ls ls' → Passes s at row n ls ls'
+  pub passes_noted : (k ≡ 0 → ⊥) → (ls' : List Label) → Noted row k (get_or s (at + 1) 0) ls ls' → Passes s at row ls ls'
   unfolding gathered
-  passes_noted z ls' N = record {
-    whole = N.whole;
-    each = λ ts d i l. rw (N.each i l, labels_head (get_or row i 0) (R.positive i l) ts, ← key_here s at ts d h, ← q, ← action_here s at ts d (sym (kind_here s at ts d h) ∙ is_prefix z))
-        (one (get_or ls i 0) (get_or s (at + 1) 0) (labels_of (get_or row i 0) (after ts)) (eqb (get_or row i 0) k));
-  }
+  passes_noted z ls' N ts d i l = rw (N i l, labels_head (get_or row i 0) (R.positive i l) ts, ← key_here s at ts d h, ← q, ← action_here s at ts d (sym (kind_here s at ts d h) ∙ is_prefix z))
+      (one (get_or ls i 0) (get_or s (at + 1) 0) (labels_of (get_or row i 0) (after ts)) (eqb (get_or row i 0) k))
     where
       one : (l a : Label) (x : List Label) (b : Bool) → gathered (cond b (joined l a) l) x ≡ gathered l (tick b a x)
       one l a x true = refl
       one l a x false = refl
 
 -- Up to the place `at` of the record s, the labels were gathered in ls.
-pub record Passed (s row : List ℕ) (n : ℕ) (ls : List Label) (at : ℕ) : Type 0 where
+pub record Passed (s row : List ℕ) (ls : List Label) (at : ℕ) : Type 0 where
   pub of : Term
   pub whole : RecordOf s of
   pub terms : List Term
   pub due : Due s at terms
-  pub room : length ls ≡ node_limit
   pub reach : at ≤ length s
-  pub all : (i : ℕ) → i < n → gathered (get_or ls i 0) (labels_of (get_or row i 0) terms) ≡ gathered no_label (labels (get_or row i 0) of)
+  pub all : (i : ℕ) → i < length row → gathered (get_or ls i 0) (labels_of (get_or row i 0) terms) ≡ gathered no_label (labels (get_or row i 0) of)
 
-pub start : (s row : List ℕ) (n : ℕ) (ls : List Label) → Readable s → length ls ≡ node_limit → Unlabelled n ls → Passed s row n ls 0
-start s row n ls R e U = record {
+pub start : (s row : List ℕ) (ls : List Label) → Readable s → Unlabelled (length row) ls → Passed s row ls 0
+start s row ls R U = record {
   of = R.0;
   whole = R.1;
   terms = R.0 ∷ [];
   due = all_due s R.0 R.1.bytes;
-  room = e;
   reach = omega arith;
   all = λ i h. rw (U i h, labels_one (get_or row i 0) R.0);
 }
 
-module _ (s row : List ℕ) (n : ℕ) (ls : List Label) (at : ℕ) (P : Passed s row n ls at) where
-  pub onward : at < length s → (ls' : List Label) → Passes s at row n ls ls' → (b : ℕ) → b ≡ get_or s at 0 → Passed s row n ls' (at + (1 + length_of_body b))
+module _ (s row : List ℕ) (ls : List Label) (at : ℕ) (P : Passed s row ls at) where
+  pub onward : at < length s → (ls' : List Label) → Passes s at row ls ls' → (b : ℕ) → b ≡ get_or s at 0 → Passed s row ls' (at + (1 + length_of_body b))
   onward h ls' N b e = record {
     of = P.of;
     whole = P.whole;
     terms = after P.terms;
     due = due_after s at P.terms P.due h b e;
-    room = N.whole ∙ P.room;
     reach = ends_within s at P.terms P.due h b e;
-    all = λ i l. N.each P.terms P.due i l ∙ P.all i l;
+    all = λ i l. N P.terms P.due i l ∙ P.all i l;
   }
 
   -- at the end each label is that of its key's undo
-  pub labelled : length s ≤ at → (length ls ≡ node_limit) × UndoLabels s row n ls
+  pub labelled : length s ≤ at → UndoLabels s row ls
   unfolding gathered labels_of
-  labelled h = (P.room, λ t r i l k u d. let e : get_or ls i 0 ≡ gathered no_label (labels (get_or row i 0) P.of) = rw (none_due s at P.terms h P.due) at (P.all i l) in e ∙ rw (reads_one s P.whole.reads r) (undo_gathered d))
+  labelled h t r i l k u d = let e : get_or ls i 0 ≡ gathered no_label (labels (get_or row i 0) P.of) = rw (none_due s at P.terms h P.due) at (P.all i l) in e ∙ rw (reads_one s P.whole.reads r) (undo_gathered d)

@@ -1,10 +1,11 @@
 -- What an undo listing leaves in a row is as the labels ask for it.
 use mathlib.Core.Path.{◌≡◌}
 use mathlib.Core.Logic.{⊎_elim}
-use mathlib.Core.List.{List, [], ◌∷◌, ◌++◌}
+use mathlib.Core.List.{List, [], ◌∷◌}
 use Prim.Native.Nat.{ℕ, zero, suc, ◌<◌, ◌≤◌}
 use native.Mathlib.Omega.{arith}
-use lib.ListN.{length, get_or, drop, replicate, length-append, get_or-replicate, get_or-append}
+use lib.ListN.{length, get_or, drop, take, replicate, length-append, length-drop, get_or-replicate}
+use Rattle.std.proofs.Math.Seq.{take-append_seam}
 use Rattle.ccsk.specs.Numbers.{AscendingFrom}
 use Rattle.format.specs.Encode.{Bytes}
 use Rattle.format.proofs.Unique.{encode-decode}
@@ -25,21 +26,17 @@ ascending n (b ∷ l) a i zero h g = absurd (omega arith)
 ascending n (b ∷ l) a zero (suc j) h g = above b l a.1 j (omega arith)
 ascending n (b ∷ l) a (suc i) (suc j) h g = ascending b l a.1 i j (omega arith) (omega arith)
 
-rising : (l x : List ℕ) → AscendingFrom 0 l → Rising (l ++ x) (length l)
-rising l x a = record {
-  room = omega (arith, length-append l x);
-  positive = λ i h. rw (get_or-append l x 0 i h) (above 0 l a i h);
-  ascend = λ i j h g. rw (get_or-append l x 0 i (omega arith), get_or-append l x 0 j g) (ascending 0 l a i j h g);
-}
+rising : (l : List ℕ) → AscendingFrom 0 l → Rising l
+rising l a = record { positive = above 0 l a; ascend = ascending 0 l a }
 
-row_rising : {l row row' : List ℕ} {r n : ℕ} → AscendingFrom 0 l → r ≡ 0 → Filled l row r n row' → Rising row' n × (n ≤ length row)
+row_rising : {l row row' : List ℕ} {r n : ℕ} → AscendingFrom 0 l → r ≡ 0 → Filled l row r n row' → Rising (take n row') × (n ≤ length row) × (length row' ≡ length row)
 row_rising {l} {row} a z (short h) = absurd (omega arith)
-row_rising {l} {row} a z (filled h) = (rising l (drop (length l) row) a, h)
+row_rising {l} {row} a z (filled h) = (rw (take-append_seam l (drop (length l) row)) (rising l a), h, omega (arith, length-append l (drop (length l) row), length-drop (length l) row))
 
 -- The record is readable, its listed keys ascend, and there are no more than the row has places.
-pub listing_rising : {s row row' : List ℕ} {r n : ℕ} → Bytes s → r ≡ 0 → UndoListing s row r n row' → Readable s × Rising row' n × (n ≤ length row)
+pub listing_rising : {s row row' : List ℕ} {r n : ℕ} → Bytes s → r ≡ 0 → UndoListing s row r n row' → Readable s × Rising (take n row') × (n ≤ length row) × (length row' ≡ length row)
 listing_rising {s} B z (unreadable {c = c} e) = absurd (⊎_elim (λ y. omega arith) (λ y. omega arith) (decode_refusals s c e))
-listing_rising {s} B z (done {t = t} e L f) = let d = encode-decode s t B e in let p = row_rising L.0 z f in ((t, record { reads = e; bytes = d.0; fits = d.1 }), p.0, p.1)
+listing_rising {s} B z (done {t = t} e L f) = let d = encode-decode s t B e in let p = row_rising L.0 z f in ((t, record { reads = e; bytes = d.0; fits = d.1 }), p.0, p.1, p.2)
 
 -- an array laid out with `no_label` is without labels
 pub unlabelled : (k n : ℕ) → n ≤ k → Unlabelled n (replicate k no_label)

@@ -7,7 +7,7 @@ use native.Mathlib.Decide.{ℕ_discrete, dec_lt}
 use native.Mathlib.Omega.{arith}
 use borrow.Author.Tests.{eq-eqb, ne_eqb}
 use lib.Bits.{bit_and, bit_or, bit_xor, and_le_l, or_lt}
-use lib.Dec.{eqb, ltb}
+use lib.Dec.{eqb}
 use Rattle.ccsk.specs.Term.{Co, On, Channel}
 use Rattle.shared.specs.Tells.{Tells}
 use Rattle.keyset.specs.Set.{bit, power}
@@ -201,12 +201,7 @@ module _ (s t : Labels) (a : s.a < 2 ^ 64) (b : s.b < 2 ^ 64) (c : s.c < 2 ^ 64)
   unfolding Shows
   apart_tells = tells (any shared) 0 (λ e l z. no_bit (l % 64) (rw e at ((any_bit shared (l % 64)).1 (l / 64, (bit_shared (l / 64) (l % 64)).1 z)))) (λ f A. meet f A)
 
--- the word that the tests of `has` choose, and a test of its bit
-module _ (s : Labels) (l w : ℕ) (h : l < 256) (e : w ≡ cond (ltb (l / 64) 2) (cond (ltb (l / 64) 1) s.a s.b) (cond (ltb (l / 64) 3) s.c s.d)) where
-  word_at : w ≡ word s (l / 64)
-  word_at = e ∙ by_place (λ i. i < 4 → cond (ltb i 2) (cond (ltb i 1) s.a s.b) (cond (ltb i 3) s.c s.d) ≡ word s i)
-      (λ z. refl) (λ z. refl) (λ z. refl) (λ z. refl) (λ i z. absurd (omega arith)) (l / 64) (omega arith)
-
-  pub has_tells : Tells (eqb (w / 2 ^ (l % 64) % 2) 1) (Shows s l)
-  unfolding Shows
-  has_tells = rw (bit_shifted (l % 64) w, word_at) (tells (bit (word s (l / 64)) (l % 64)) 1 (λ z. z) (λ z. z))
+-- a test of the bit of a label's word
+pub has_tells : (s : Labels) (l : ℕ) {w : ℕ} → w ≡ word s (l / 64) → Tells (eqb (w / 2 ^ (l % 64) % 2) 1) (Shows s l)
+unfolding Shows
+has_tells s l {w} e = rw (bit_shifted (l % 64) w, e) (tells (bit (word s (l / 64)) (l % 64)) 1 (λ z. z) (λ z. z))

@@ -4,7 +4,8 @@ use mathlib.Core.List.{[], ◌∷◌}
 use Prim.Native.Nat.{ℕ}
 use Rattle.ccsk.specs.Term.{Key, Label, nil, pre, cho, par, res, size}
 use Rattle.moves.specs.Move.{holds}
-use Rattle.lasts.specs.Last.{Last, lasts, all_lasts}
+use Rattle.lasts.specs.declared.Last.{Last}
+use Rattle.lasts.specs.Last.{lasts, all_lasts}
 
 abbrev at : Key → Label → ℕ → Last
 at k a s = record { key = k; action = a; scope = s }

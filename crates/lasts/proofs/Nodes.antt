@@ -16,7 +16,8 @@ use Rattle.format.specs.Encode.{InRange}
 use Rattle.moves.specs.Choose.{undo_choice}
 use Rattle.moves.specs.Move.{Move, still, step, stuck, holds, pass, hidden_if, move_over_prefix, move_over_choice, move_over_restriction, move}
 use Rattle.moves.proofs.Holds.{Says, equal_says, Holding, holding}
-use Rattle.lasts.specs.Last.{Last, Scopes, slot, scope_of, enclosed, last_over_prefix, last_over_choice, lasts, keep, only}
+use Rattle.lasts.specs.declared.Last.{Last}
+use Rattle.lasts.specs.Last.{Scopes, slot, scope_of, enclosed, last_over_prefix, last_over_choice, lasts, keep, only}
 use Rattle.lasts.proofs.Told.{Action, Dead, Dead.lost, Dead.many, Dead.hidden, Dead.clash, Told, Told.none, Told.lone, Told.pair, Told.dead, Above, wider, wider_dead, nowhere, told_parallel}
 
 pub only-append : (m : Key) (x y : List Last) → only m (x ++ y) ≡ only m x ++ only m y

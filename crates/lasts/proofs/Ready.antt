@@ -14,7 +14,8 @@ use Rattle.format.specs.Encode.{InRange}
 use Rattle.moves.specs.Choose.{undo_choice}
 use Rattle.moves.specs.Move.{Move, move}
 use Rattle.moves.proofs.Undone.{UndoTells, undo_tells}
-use Rattle.lasts.specs.Last.{Last, slot, open_scopes, all_lasts, only, Ready}
+use Rattle.lasts.specs.declared.Last.{Last}
+use Rattle.lasts.specs.Last.{slot, open_scopes, all_lasts, only, Ready}
 use Rattle.lasts.proofs.Told.{Dead, Dead.lost, Dead.many, Dead.hidden, Dead.clash, Told, Told.none, Told.lone, Told.pair, Told.dead, Above}
 use Rattle.lasts.proofs.Nodes.{told}
 

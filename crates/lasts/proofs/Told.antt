@@ -9,7 +9,8 @@ use Rattle.ccsk.specs.Term.{Label, Co}
 use Rattle.ccsk.proofs.Basic.{co_sym}
 use Rattle.ccsk.specs.Decide.{co?}
 use Rattle.moves.specs.Move.{Move, still, step, stuck, joined_if, move_over_parallel}
-use Rattle.lasts.specs.Last.{Last, Scopes, slot, scope_of}
+use Rattle.lasts.specs.declared.Last.{Last}
+use Rattle.lasts.specs.Last.{Scopes, slot, scope_of}
 
 -- an action that a record can hold
 abbrev pub Action : Label → Type 0

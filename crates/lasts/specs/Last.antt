@@ -2,13 +2,7 @@
 use Rattle.std.specs.Prelude.{◌≡◌, List, [], ◌∷◌, ◌++◌, Bool, true, false, ℕ, ◌+◌, ◌%◌, eqb, get_or, set, replicate}
 use Rattle.ccsk.specs.Term.{Term, Name, Label, Key, Node, nil, pre, cho, par, res, Co, size}
 use Rattle.moves.specs.Move.{holds}
-
--- Such a prefix: its key, its action, and its scope, which is one more than the node number of the nearest restriction above that
--- stops the action, 0 if there is none.
-pub record Last : Type 0 where
-  pub key : Key
-  pub action : Label
-  pub scope : ℕ
+use Rattle.lasts.specs.declared.Last.{Last}
 
 -- For each name the scope that a prefix on it has here. A name and its co-name share a slot; the slot of tau is 0, and no restriction names it.
 abbrev pub Scopes : Type 0

@@ -5,7 +5,7 @@ use mathlib.Core.List.{List, [], ◌∷◌, ◌++◌}
 use Prim.Native.Nat.{ℕ, zero, suc, ◌+◌, ◌≤◌, ◌<◌, ◌%◌}
 use native.Mathlib.Numerals.{add-one}
 use native.Mathlib.Omega.{arith}
-use lib.ListN.{length, get_or, set, length-append, length-set}
+use lib.ListN.{length, get_or, set, length-append}
 use lib.Seq.{set-set, set-get_or}
 use Rattle.ccsk.specs.Term.{Term, Key, nil, pre, cho, par, res, size}
 use Rattle.format.specs.Limits.{node_limit}
@@ -14,7 +14,8 @@ use Rattle.format.specs.Kinds.{length_of_body}
 use Rattle.format.specs.Flat.{head_kind, head_key, key_at}
 use Rattle.causes.specs.Entry.{Entry, Scopes, under, marked, entries}
 use Rattle.lay.specs.declared.Place.{Place}
-use Rattle.lay.specs.Sheet.{Sheet, Sized, Rows}
+use Rattle.lay.specs.declared.Sheet.{Sheet}
+use Rattle.lay.specs.Sheet.{noted, Rows}
 use Rattle.lay.specs.Lay.{Here, Ready, Tells, Laid, Lays}
 use Rattle.lay.proofs.Columns.{filled_none, filled_both, filled_first, filled_last}
 use Rattle.lay.proofs.Scopes.{told, tells_told, tells_under}
@@ -40,10 +41,6 @@ rows_both i j k x y z l m p q = record {
   nearest = q.nearest ∙ p.nearest;
 }
 
--- a row but for its end is written
-abbrev pub noted : Sheet → ℕ → ℕ → ℕ → ℕ → ℕ → Sheet
-noted x i k a s u = record { keys = set x.keys i k; actions = set x.actions i a; ends = x.ends; scopes = set x.scopes i s; ups = set x.ups i u; nearest = x.nearest }
-
 -- the end of a row is written
 abbrev pub ended : Sheet → ℕ → ℕ → Sheet
 ended x i e = record { keys = x.keys; actions = x.actions; ends = set x.ends i e; scopes = x.scopes; ups = x.ups; nearest = x.nearest }
@@ -52,22 +49,22 @@ ended x i e = record { keys = x.keys; actions = x.actions; ends = set x.ends i e
 abbrev pub renearest : Sheet → ℕ → ℕ → Sheet
 renearest x a v = record { keys = x.keys; actions = x.actions; ends = x.ends; scopes = x.scopes; ups = x.ups; nearest = set x.nearest a v }
 
-pub sized_noted : (x : Sheet) (i k a s u : ℕ) → Sized x → Sized (noted x i k a s u)
-sized_noted x i k a s u z = record { keys = length-set x.keys i k ∙ z.keys; actions = length-set x.actions i a ∙ z.actions; ends = z.ends; scopes = length-set x.scopes i s ∙ z.scopes; ups = length-set x.ups i u ∙ z.ups; nearest = z.nearest }
+-- each column has a place for every node, and the table one for each name
+pub record Sized (x : Sheet) : Type 0 where
+  pub keys : length x.keys ≡ node_limit
+  pub actions : length x.actions ≡ node_limit
+  pub ends : length x.ends ≡ node_limit
+  pub scopes : length x.scopes ≡ node_limit
+  pub ups : length x.ups ≡ node_limit
+  pub nearest : length x.nearest ≡ 128
 
-sized_ended : (x : Sheet) (i e : ℕ) → Sized x → Sized (ended x i e)
-sized_ended x i e z = record { keys = z.keys; actions = z.actions; ends = length-set x.ends i e ∙ z.ends; scopes = z.scopes; ups = z.ups; nearest = z.nearest }
-
-pub sized_renearest : (x : Sheet) (a v : ℕ) → Sized x → Sized (renearest x a v)
-sized_renearest x a v z = record { keys = z.keys; actions = z.actions; ends = z.ends; scopes = z.scopes; ups = z.ups; nearest = length-set x.nearest a v ∙ z.nearest }
-
-rows_one : (i j : ℕ) (x y : Sheet) (e : Entry) (l : List Entry) (k a s u v : ℕ) → Sized x → i < node_limit → i < j → k ≡ e.key → a ≡ e.action → s ≡ e.scope → u ≡ e.up → v ≡ e.end
-    → Rows (i + 1) j (noted x i k a s u) y l → Rows i j x (ended y i v) (e ∷ l)
-rows_one i j x y e l k a s u v z h g p q r t w R = record {
+rows_one : (i j : ℕ) (x y : Sheet) (e : Entry) (l : List Entry) (k a u v : ℕ) → Sized x → i < node_limit → i < j → k ≡ e.key → a ≡ e.action → get_or x.nearest (a % 128) 0 ≡ e.scope → u ≡ e.up → v ≡ e.end
+    → Rows (i + 1) j (noted x i k a u) y l → Rows i j x (ended y i v) (e ∷ l)
+rows_one i j x y e l k a u v z h g p q r t w R = record {
   keys = filled_first (λ e. e.key) i j x.keys y.keys e l k (omega (arith, z.keys)) p R.keys;
   actions = filled_first (λ e. e.action) i j x.actions y.actions e l a (omega (arith, z.actions)) q R.actions;
   ends = filled_last (λ e. e.end) i j x.ends y.ends e l v (omega (arith, z.ends)) g w R.ends;
-  scopes = filled_first (λ e. e.scope) i j x.scopes y.scopes e l s (omega (arith, z.scopes)) r R.scopes;
+  scopes = filled_first (λ e. e.scope) i j x.scopes y.scopes e l (get_or x.nearest (a % 128) 0) (omega (arith, z.scopes)) r R.scopes;
   ups = filled_first (λ e. e.up) i j x.ups y.ups e l u (omega (arith, z.ups)) t R.ups;
   nearest = R.nearest;
 }
@@ -89,13 +86,13 @@ module _ (s : List ℕ) (at node row kind : ℕ) (hk : kind ≡ get_or s at 0) (
   body : (m : ℕ) → kind ≡ m → b ≡ length_of_body m
   body = body_of s at node row kind hk b hb
 
-  pub lays_nil : kind ≡ 0 → Sized x → Lays s at node row up x (record { at = at + (1 + b); node = node + 1; row = row }) x
+  pub lays_nil : kind ≡ 0 → Lays s at node row up x (record { at = at + (1 + b); node = node + 1; row = row }) x
   unfolding head_kind encode size marked entries
-  lays_nil z w nil ts sc h g = record { after = omega (arith, body 0 (kind_of_lem nil ts h)); node = refl; row = omega arith; rows = rows_none row x; sized = w }
-  lays_nil z w (pre a k t) ts sc h g = absurd (omega (arith, kind_of_lem (pre a k t) ts h))
-  lays_nil z w (cho t u) ts sc h g = absurd (omega (arith, kind_of_lem (cho t u) ts h))
-  lays_nil z w (par t u) ts sc h g = absurd (omega (arith, kind_of_lem (par t u) ts h))
-  lays_nil z w (res a t) ts sc h g = absurd (omega (arith, kind_of_lem (res a t) ts h))
+  lays_nil z nil ts sc h g = record { after = omega (arith, body 0 (kind_of_lem nil ts h)); node = refl; row = omega arith; rows = rows_none row x }
+  lays_nil z (pre a k t) ts sc h g = absurd (omega (arith, kind_of_lem (pre a k t) ts h))
+  lays_nil z (cho t u) ts sc h g = absurd (omega (arith, kind_of_lem (cho t u) ts h))
+  lays_nil z (par t u) ts sc h g = absurd (omega (arith, kind_of_lem (par t u) ts h))
+  lays_nil z (res a t) ts sc h g = absurd (omega (arith, kind_of_lem (res a t) ts h))
 
   -- the entries of a child, whose node number is one more
   at_child : (i : ℕ) (u : Key) (j : ℕ) (y z : Sheet) (sc : Scopes) (t : Term) → Rows i j y z (entries (node + 1) i u sc t) → Rows i j y z (entries (suc node) i u sc t)
@@ -106,14 +103,14 @@ module _ (s : List ℕ) (at node row kind : ℕ) (hk : kind ≡ get_or s at 0) (
     unfolding head_kind head_key encode size marked entries
     lays_unmarked z r x' L nil ts sc h g = absurd (omega (arith, kind_of_lem nil ts h))
     lays_unmarked z r x' L (pre a zero t) ts sc h g = let w = L t ts sc (here_prefix s at node row kind hk b hb a zero t ts h) g in
-        record { after = omega (arith, w.after, body 1 q); node = omega (arith, w.node); row = w.row; rows = at_child row up r.row x x' sc t w.rows; sized = w.sized }
+        record { after = omega (arith, w.after, body 1 q); node = omega (arith, w.node); row = w.row; rows = at_child row up r.row x x' sc t w.rows }
     lays_unmarked z r x' L (pre a (suc k) t) ts sc h g = absurd (omega (arith, root_key s at node row kind hk (pre a (suc k) t) ts h.due))
     lays_unmarked z r x' L (cho t u) ts sc h g = absurd (omega (arith, kind_of_lem (cho t u) ts h))
     lays_unmarked z r x' L (par t u) ts sc h g = absurd (omega (arith, kind_of_lem (par t u) ts h))
     lays_unmarked z r x' L (res a t) ts sc h g = absurd (omega (arith, kind_of_lem (res a t) ts h))
 
     pub lays_marked : key ≢ 0 → Sized x → (a : ℕ) → a ≡ get_or s (at + 1) 0 → (r : Place) (y : Sheet)
-        → Lays s (at + (1 + b)) (node + 1) (row + 1) key (noted x row key a (get_or x.nearest (a % 128) 0) up) r y → Lays s at node row up x r (ended y row r.row)
+        → Lays s (at + (1 + b)) (node + 1) (row + 1) key (noted x row key a up) r y → Lays s at node row up x r (ended y row r.row)
     unfolding head_kind head_key encode size marked entries
     lays_marked z W l el r y L nil ts sc h g = absurd (omega (arith, kind_of_lem nil ts h))
     lays_marked z W l el r y L (pre a zero t) ts sc h g = absurd (z (ek ∙ root_key s at node row kind hk (pre a zero t) ts h.due))
@@ -123,13 +120,12 @@ module _ (s : List ℕ) (at node row kind : ℕ) (hk : kind ≡ get_or s at 0) (
           after = omega (arith, w.after, body 1 q);
           node = omega (arith, w.node);
           row = omega (arith, w.row);
-          rows = rows_one row r.row x y _ _ key l (get_or x.nearest (l % 128) 0) up r.row W (omega (arith, h.room)) (omega (arith, w.row)) e f (rw f (sym (g a h.range.0 h.range.1))) refl (omega (arith, w.row))
+          rows = rows_one row r.row x y _ _ key l up r.row W (omega (arith, h.room)) (omega (arith, w.row)) e f (rw f (sym (g a h.range.0 h.range.1))) refl (omega (arith, w.row))
               (below e w.rows);
-          sized = sized_ended y row r.row w.sized;
         }
       where
-        below : key ≡ suc k → Rows (row + 1) r.row (noted x row key l (get_or x.nearest (l % 128) 0) up) y (entries (node + 1) (row + 1) key sc t)
-            → Rows (row + 1) r.row (noted x row key l (get_or x.nearest (l % 128) 0) up) y (entries (suc node) (suc row) (suc k) sc t)
+        below : key ≡ suc k → Rows (row + 1) r.row (noted x row key l up) y (entries (node + 1) (row + 1) key sc t)
+            → Rows (row + 1) r.row (noted x row key l up) y (entries (suc node) (suc row) (suc k) sc t)
         below e R = rw (← e, ← add-one node, ← add-one row) R
     lays_marked z W l el r y L (cho t u) ts sc h g = absurd (omega (arith, kind_of_lem (cho t u) ts h))
     lays_marked z W l el r y L (par t u) ts sc h g = absurd (omega (arith, kind_of_lem (par t u) ts h))
@@ -149,7 +145,6 @@ module _ (s : List ℕ) (at node row kind : ℕ) (hk : kind ≡ get_or s at 0) (
         node = omega (arith, w.node);
         row = w.row;
         rows = rows_closed row r.row x y _ a (node + 1) o eo (at_child row up r.row (renearest x a (node + 1)) y (under l node sc) t w.rows);
-        sized = sized_renearest y a o w.sized;
       }
     where
       below : a ≡ l → Tells (set x.nearest a (node + 1)) (under l node sc)
@@ -177,13 +172,12 @@ module _ (s : List ℕ) (at node row kind : ℕ) (hk : kind ≡ get_or s at 0) (
       both : (t u : Term) (ts : List Term) (sc : Scopes) → Tells x.nearest sc → InRange u → node + 1 + size t + size u < 65536 → row + marked t + marked u ≤ node_limit
           → Here s (at + (1 + b)) (node + 1) row t (u ∷ ts)
           → (r₂.at ≡ at + (1 + b) + length (encode t) + length (encode u)) × (r₂.node ≡ node + 1 + size t + size u) × (r₂.row ≡ row + marked t + marked u)
-          × Rows row r₂.row x x' (entries (suc node) row up sc t ++ entries (suc node + size t) (row + marked t) up sc u) × Sized x'
+          × Rows row r₂.row x x' (entries (suc node) row up sc t ++ entries (suc node + size t) (row + marked t) up sc u)
       both t u ts sc g i f m h = let w = L t (u ∷ ts) sc h g in let v = M u ts sc (here_second t u ts _ h w i f m) (rw w.rows.nearest g) in (
         omega (arith, w.after, v.after),
         omega (arith, w.node, v.node),
         omega (arith, w.row, v.row),
         rows_both row r.row r₂.row x y x' _ _ (at_child row up r.row x y sc t w.rows) (second w.node w.row v.rows),
-        v.sized,
       )
         where
           second : r.node ≡ node + 1 + size t → r.row ≡ row + marked t → Rows r.row r₂.row y x' (entries r.node r.row up sc u)
@@ -195,22 +189,11 @@ module _ (s : List ℕ) (at node row kind : ℕ) (hk : kind ≡ get_or s at 0) (
       lays_two nil ts sc h g = absurd (z (kind_of_lem nil ts h))
       lays_two (pre a k t) ts sc h g = absurd (p (kind_of_lem (pre a k t) ts h))
       lays_two (cho t u) ts sc h g = let w = both t u ts sc g h.range.1 (omega (arith, h.few)) (omega (arith, h.room)) (here_choice s at node row kind hk b hb t u ts h) in
-          record { after = omega (arith, w.0, body 2 (kind_of_lem (cho t u) ts h), length-append (encode t) (encode u)); node = omega (arith, w.1); row = omega (arith, w.2); rows = w.3; sized = w.4 }
+          record { after = omega (arith, w.0, body 2 (kind_of_lem (cho t u) ts h), length-append (encode t) (encode u)); node = omega (arith, w.1); row = omega (arith, w.2); rows = w.3 }
       lays_two (par t u) ts sc h g = let w = both t u ts sc g h.range.1 (omega (arith, h.few)) (omega (arith, h.room)) (here_parallel s at node row kind hk b hb t u ts h) in
-          record { after = omega (arith, w.0, body 3 (kind_of_lem (par t u) ts h), length-append (encode t) (encode u)); node = omega (arith, w.1); row = omega (arith, w.2); rows = w.3; sized = w.4 }
+          record { after = omega (arith, w.0, body 3 (kind_of_lem (par t u) ts h), length-append (encode t) (encode u)); node = omega (arith, w.1); row = omega (arith, w.2); rows = w.3 }
       lays_two (res a t) ts sc h g = absurd (q (kind_of_lem (res a t) ts h))
 
--- what the columns are after a row has been written but for its end
-pub after_note : (x : Sheet) (i k a v u : ℕ) (ks acs ss us : List ℕ) → (ks ≡ set x.keys i k) × (acs ≡ set x.actions i a) × (ss ≡ set x.scopes i v) × (us ≡ set x.ups i u)
-    → record { keys = ks; actions = acs; ends = x.ends; scopes = ss; ups = us; nearest = x.nearest } ≡ noted x i k a v u
-after_note x i k a v u ks acs ss us e = rw (e.0, e.1, e.2, e.3)
-
-pub sized_same : (x y : Sheet) → x ≡ y → Sized y → Sized x
-sized_same x y e z = rw e z
-
-pub lays_same : (s : List ℕ) (at node row : ℕ) (up : Key) (x y : Sheet) (r : Place) (z : Sheet) → x ≡ y → Lays s at node row up x r z → Lays s at node row up y r z
-lays_same s at node row up x y r z e = subst (λ (w : Sheet). Lays s at node row up w r z) e
-
--- where the pass ends there are rows enough, and the columns are whole
-pub laid_end : (s : List ℕ) (at node row : ℕ) (up : Key) (x : Sheet) (r : Place) (y : Sheet) → Ready s at node row → Lays s at node row up x r y → (r.row ≤ node_limit) × Sized y
-laid_end s at node row up x r y (t, ts, h) L = let w = L t ts (told x.nearest) h (tells_told x.nearest) in (omega (arith, w.row, h.room), w.sized)
+-- where the pass ends there are rows enough
+pub laid_end : (s : List ℕ) (at node row : ℕ) (up : Key) (x : Sheet) (r : Place) (y : Sheet) → Ready s at node row → Lays s at node row up x r y → r.row ≤ node_limit
+laid_end s at node row up x r y (t, ts, h) L = let w = L t ts (told x.nearest) h (tells_told x.nearest) in omega (arith, w.row, h.room)

@@ -3,4 +3,5 @@ pub mod Columns
 pub mod Scopes
 pub mod Places
 pub mod Laying
+pub mod Children
 pub mod Whole

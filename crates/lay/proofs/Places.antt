@@ -64,9 +64,6 @@ module _ (s : List ℕ) (at node row kind : ℕ) (hk : kind ≡ get_or s at 0) w
     pub ready_key : kind ≡ 1 → at + 3 < length s
     ready_key q = omega (arith, subst (λ (m : ℕ). at + (1 + length_of_body m) ≤ length s) q ready_ends)
 
-    pub ready_name : kind ≡ 4 → at + 1 < length s
-    ready_name q = omega (arith, subst (λ (m : ℕ). at + (1 + length_of_body m) ≤ length s) q ready_ends)
-
     pub ready_node : node + 1 < 65536
     unfolding size
     ready_node = few w.0 w.2.few

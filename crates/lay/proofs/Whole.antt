@@ -9,8 +9,8 @@ use Rattle.format.proofs.Flat.{all_due}
 use Rattle.causes.specs.Entry.{Scopes, under, open_scopes, marked, entries}
 use Rattle.keys.specs.Gather.{RecordOf, Readable}
 use Rattle.lay.specs.declared.Place.{Place}
-use Rattle.lay.specs.Sheet.{Sheet, sheet, Sized}
-use Rattle.lay.specs.Lay.{Here, Ready, Lays, Whole, LaidOut}
+use Rattle.lay.specs.declared.Sheet.{Sheet}
+use Rattle.lay.specs.Lay.{Here, Ready, Lays, LaidOut}
 use Rattle.lay.proofs.Scopes.{tells_open}
 
 marked_few : (t : Term) → marked t ≤ size t
@@ -38,15 +38,11 @@ here_start s t w = record { due = all_due s t w.bytes; range = w.fits.range; few
 pub ready_start : (s : List ℕ) → Readable s → Ready s 0 0 0
 ready_start s (t, w) = (t, [], here_start s t w)
 
-pub sized_start : (ks acs es ss us near : List ℕ) → Whole ks acs es ss us → length near ≡ 128 → Sized (sheet ks acs es ss us near)
-sized_start ks acs es ss us near w e = record { keys = w.keys; actions = w.actions; ends = w.ends; scopes = w.scopes; ups = w.ups; nearest = e }
-
 pub laid_out : (s : List ℕ) (x : Sheet) (r : Place) (y : Sheet) → ((k : ℕ) → k < 128 → get_or x.nearest k 0 ≡ 0) → Lays s 0 0 0 0 x r y
-    → LaidOut s r.row y.keys y.actions y.ends y.scopes y.ups
+    → LaidOut s r.row y
 laid_out s x r y z L t w = let l = L t [] open_scopes (here_start s t w) (tells_open x.nearest z) in record {
   count = omega (arith, l.row, entries_count 0 0 0 open_scopes t);
   few = omega (arith, l.row, (here_start s t w).room);
-  whole = record { keys = l.sized.keys; actions = l.sized.actions; ends = l.sized.ends; scopes = l.sized.scopes; ups = l.sized.ups };
   keys = l.rows.keys;
   actions = l.rows.actions;
   ends = l.rows.ends;

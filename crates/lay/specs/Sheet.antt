@@ -1,28 +1,11 @@
 -- The columns that a record is laid out in, and the table of nearest restrictions.
-use Rattle.std.specs.Prelude.{◌≡◌, List, [], ◌∷◌, ◌++◌, ℕ, length, take}
-use Rattle.format.specs.Limits.{node_limit}
+use Rattle.std.specs.Prelude.{◌≡◌, List, [], ◌∷◌, ◌++◌, ℕ, ◌%◌, take, set, get_or}
 use Rattle.causes.specs.Entry.{Entry}
+use Rattle.lay.specs.declared.Sheet.{Sheet}
 
--- five columns, a place in each for a row, and for each name one more than the node number of the innermost open restriction on it, 0 if there is none
-pub record Sheet : Type 0 where
-  pub keys : List ℕ
-  pub actions : List ℕ
-  pub ends : List ℕ
-  pub scopes : List ℕ
-  pub ups : List ℕ
-  pub nearest : List ℕ
-
-abbrev pub sheet : List ℕ → List ℕ → List ℕ → List ℕ → List ℕ → List ℕ → Sheet
-sheet ks acs es ss us near = record { keys = ks; actions = acs; ends = es; scopes = ss; ups = us; nearest = near }
-
--- each column has a place for every node, and the table one for each name
-pub record Sized (x : Sheet) : Type 0 where
-  pub keys : length x.keys ≡ node_limit
-  pub actions : length x.actions ≡ node_limit
-  pub ends : length x.ends ≡ node_limit
-  pub scopes : length x.scopes ≡ node_limit
-  pub ups : length x.ups ≡ node_limit
-  pub nearest : length x.nearest ≡ 128
+-- row i is written but for its end: its key, its action with the scope that the table tells, and the key right above it
+abbrev pub noted : Sheet → ℕ → ℕ → ℕ → ℕ → Sheet
+noted x i k a u = record { keys = set x.keys i k; actions = set x.actions i a; ends = x.ends; scopes = set x.scopes i (get_or x.nearest (a % 128) 0); ups = set x.ups i u; nearest = x.nearest }
 
 -- what the entries hold in one field
 unfoldable pub column : (Entry → ℕ) → List Entry → List ℕ

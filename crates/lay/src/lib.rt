@@ -2,15 +2,16 @@
 // Helpers between crates, with what each asks of its caller.
 #![tactic(auto)]
 
-ghost use Rattle.std.specs.Prelude.{◌≡◌, ◌+◌, ◌<◌, ◌%◌, length, get_or, set};
+ghost use Rattle.std.specs.Prelude.{◌≡◌, ◌+◌, ◌<◌};
+ghost use Rattle.reader.specs.Kind.{body_of};
 ghost use Rattle.format.specs.Limits.{node_limit};
 ghost use Rattle.keys.specs.Gather.{Readable};
-ghost use Rattle.lay.specs.Sheet.{sheet, Sized};
-ghost use Rattle.lay.specs.Lay.{Ready, Lays, Whole, LaidOut};
+ghost use Rattle.lay.specs.Sheet.{noted};
+ghost use Rattle.lay.specs.Lay.{child, Ready, Lays, LaidOut};
 
 use keys::key_at;
-use reader::{NIL, NODES, PREFIX, RESTRICTION, body_length};
-use shared::{NAMES, Name, slot, slot_of, wide_byte};
+use reader::{Kind, NODES, kind_at};
+use shared::{NAMES, slot};
 
 // The place of a term: where it begins, the number of its root, and the row of its first key.
 #[derive(Clone, Copy)]
@@ -20,101 +21,102 @@ pub struct Place {
     pub row: usize,
 }
 
-// Writes a row but for its end.
-fn note(
-    row: usize,
-    key: u16,
-    action: u8,
-    up: u16,
-    keys: &mut [u16; NODES],
-    actions: &mut [u8; NODES],
-    scopes: &mut [u16; NODES],
-    ups: &mut [u16; NODES],
-    nearest: &[u16; NAMES],
-)
-    requires { (row < node_limit) × (length keys.old ≡ node_limit) × (length actions.old ≡ node_limit) × (length scopes.old ≡ node_limit) × (length ups.old ≡ node_limit) × (length nearest.now ≡ 128) }
-    ensures { (keys.new ≡ set keys.old row key) × (actions.new ≡ set actions.old row action) × (scopes.new ≡ set scopes.old row (get_or nearest.now (action % 128) 0)) × (ups.new ≡ set ups.old row up) }
-{
-    keys[row] = key;
-    actions[row] = action;
-    scopes[row] = nearest[slot_of(action)];
-    ups[row] = up;
+impl Place {
+    // Goes on to the child of the node that stands here, which is of this kind.
+    fn enter(&mut self, kind: Kind)
+        requires { (self.old.at + body_of kind < usize.MAX) × (self.old.node < usize.MAX) }
+        ensures { self.new ≡ child self.old kind }
+    {
+        self.at += 1 + kind.body();
+        self.node += 1;
+    }
 }
 
-// Lays out the term that stands here, below the key `up`, 0 for none, and answers the place of what follows it. The child begins where a
-// body of no bytes ends, unless the node is of a kind that has one.
-fn lay(
-    s: &[u8],
-    here: Place,
-    up: u16,
-    keys: &mut [u16; NODES],
-    actions: &mut [u8; NODES],
-    ends: &mut [u16; NODES],
-    scopes: &mut [u16; NODES],
-    ups: &mut [u16; NODES],
-    nearest: &mut [u16; NAMES],
-) -> Place
-    requires ready { Ready s.now here.at here.node here.row }
-    requires sized { Sized (sheet keys.old actions.old ends.old scopes.old ups.old nearest.old) }
-    ensures { Lays s.now here.at here.node here.row up (sheet keys.old actions.old ends.old scopes.old ups.old nearest.old) result (sheet keys.new actions.new ends.new scopes.new ups.new nearest.new) }
-{
-    let at = here.at;
-    let row = here.row;
-    let below = here.node + 1;
-    let kind = wide_byte(s[at]);
-    let mut child = Place {
-        at: at + (1 + body_length(NIL)),
-        node: below,
-        row: row,
-    };
-    if kind == PREFIX {
-        child.at = at + (1 + body_length(PREFIX));
-        let key = key_at(s, at);
-        if key == 0 {
-            return lay(s, child, up, keys, actions, ends, scopes, ups, nearest);
+// Columns with a place for each row: its key, its action, the row that follows all below it, its scope, and the key right above it. While a
+// record is laid out, for each name one more than the number of the nearest restriction on it that is open, 0 if there is none.
+#[derive(Drop)]
+pub struct Sheet {
+    pub keys: [u16; NODES],
+    pub actions: [u8; NODES],
+    pub ends: [u16; NODES],
+    pub scopes: [u16; NODES],
+    pub ups: [u16; NODES],
+    nearest: [u16; NAMES],
+}
+
+impl Sheet {
+    // Columns to be written.
+    pub fn new() -> Sheet {
+        Sheet {
+            keys: [0; NODES],
+            actions: [0; NODES],
+            ends: [0; NODES],
+            scopes: [0; NODES],
+            ups: [0; NODES],
+            nearest: [0; NAMES],
         }
-        note(row, key, s[at + 1], up, keys, actions, scopes, ups, nearest);
-        child.row = row + 1;
-        let end = lay(s, child, key, keys, actions, ends, scopes, ups, nearest);
-        ends[row] = end.row as u16;
-        return end;
     }
-    if kind == RESTRICTION {
-        child.at = at + (1 + body_length(RESTRICTION));
-        let a = s[at + 1];
-        let place = slot(Name(a));
-        let outer = nearest[place];
-        nearest[place] = below as u16;
-        let end = lay(s, child, up, keys, actions, ends, scopes, ups, nearest);
-        nearest[place] = outer;
-        return end;
-    }
-    if kind == NIL {
-        return child;
-    }
-    let other = lay(s, child, up, keys, actions, ends, scopes, ups, nearest);
-    lay(s, other, up, keys, actions, ends, scopes, ups, nearest)
-}
 
-// Lays out a readable record, and answers how many rows it has.
-pub fn lay_all(
-    s: &[u8],
-    keys: &mut [u16; NODES],
-    actions: &mut [u8; NODES],
-    ends: &mut [u16; NODES],
-    scopes: &mut [u16; NODES],
-    ups: &mut [u16; NODES],
-) -> usize
-    requires readable { Readable s.now }
-    requires whole { Whole keys.old actions.old ends.old scopes.old ups.old }
-    ensures { LaidOut s.now result keys.new actions.new ends.new scopes.new ups.new }
-{
-    let mut nearest = [0u16; NAMES];
-    let start = Place {
-        at: 0,
-        node: 0,
-        row: 0,
-    };
-    let end = lay(s, start, 0, keys, actions, ends, scopes, ups, &mut nearest);
-    end.row
+    // Writes a row but for its end.
+    fn note(&mut self, row: usize, key: u16, action: u8, up: u16)
+        requires { row < node_limit }
+        ensures { self.new ≡ noted self.old row key action up }
+    {
+        self.keys[row] = key;
+        self.actions[row] = action;
+        self.scopes[row] = self.nearest[slot(action)];
+        self.ups[row] = up;
+    }
+
+    // Lays out the term that stands at a place, below the key `up`, 0 for none, and goes on to the place of what follows it. Each kind with a
+    // body has a branch of its own, so that the place of the child waits for no table.
+    fn lay(&mut self, s: &[u8], place: &mut Place, up: u16)
+        requires { Ready s.now place.old.at place.old.node place.old.row }
+        ensures { Lays s.now place.old.at place.old.node place.old.row up self.old place.new self.new }
+    {
+        let at = place.at;
+        match kind_at(s, at) {
+            Kind::Prefix => {
+                place.enter(Kind::Prefix);
+                let key = key_at(s, at);
+                if key == 0 {
+                    return self.lay(s, place, up);
+                }
+                let row = place.row;
+                self.note(row, key, s[at + 1], up);
+                place.row += 1;
+                self.lay(s, place, key);
+                self.ends[row] = place.row as u16;
+            }
+            Kind::Restriction => {
+                place.enter(Kind::Restriction);
+                let a = slot(s[at + 1]);
+                let outer = self.nearest[a];
+                self.nearest[a] = place.node as u16;
+                self.lay(s, place, up);
+                self.nearest[a] = outer;
+            }
+            Kind::Nil => place.enter(Kind::Nil),
+            kind => {
+                place.enter(kind);
+                self.lay(s, place, up);
+                self.lay(s, place, up);
+            }
+        }
+    }
+
+    // Lays out a readable record, and answers how many rows it has.
+    pub fn lay_all(&mut self, s: &[u8]) -> usize
+        requires { Readable s.now }
+        ensures { LaidOut s.now result self.new }
+    {
+        self.nearest = [0; NAMES];
+        let mut place = Place {
+            at: 0,
+            node: 0,
+            row: 0,
+        };
+        self.lay(s, &mut place, 0);
+        place.row
+    }
 }

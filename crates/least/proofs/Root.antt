@@ -44,3 +44,8 @@ module _ (n : ℕ) (tree : List ℕ) (T : Tree n tree) where
   root_there h g = let r = leaf_of (n + n) 1 (omega arith) (omega arith) (omega arith) in ⊎_elim
       (λ z. let q : get_or tree 1 0 ≡ r.0 = r.2 ∙ z in (omega (arith, r.1, q), rw q z))
       (λ z. absurd (omega (arith, r.2, z))) (T.leaves.leaves r.0 r.1)
+
+  -- the root is a number or 65,535
+  pub root_small : 0 < n → get_or tree 1 0 ≤ 65535
+  root_small h = let r = leaf_of (n + n) 1 (omega arith) (omega arith) (omega arith) in
+      ⊎_elim (λ z. omega (arith, r.1, r.2, z, T.leaves.few)) (λ z. omega (arith, r.2, z)) (T.leaves.leaves r.0 r.1)

@@ -27,7 +27,7 @@ use Rattle.operations.proofs.InTurn.{turn_goes}
 use Rattle.operations.proofs.TakeBackOnce.{goes_key, turn_holds}
 use Rattle.operations.proofs.Bounds.{listed_few}
 use Rattle.keyset.specs.Set.{member, members_below, added, Added}
-use Rattle.keyset.proofs.Sets.{length_added, added_same, added_other}
+use Rattle.keyset.proofs.Sets.{added_same, added_other}
 use Rattle.keyset.proofs.Members.{members_list}
 use Rattle.keyset.proofs.Counts.{members_count}
 use Rattle.keyset.proofs.Listing.{row_more}
@@ -35,12 +35,13 @@ use Rattle.keys.specs.Erase.{erase, Erased}
 use Rattle.keys.proofs.Distinct.{snoc}
 use Rattle.keys.proofs.Marks.{holds_members, put_in}
 use Rattle.rank.proofs.Ranks.{rank-length}
-use Rattle.filing.specs.Cabinet.{Cabinet, Link}
+use Rattle.filing.specs.declared.Cabinet.{Cabinet}
+use Rattle.filing.specs.Cabinet.{Link}
 use Rattle.chains.specs.Reach.{LeadsTo, Closed}
 use Rattle.waiting.proofs.Answers.{counted, no_zero, listed, to_keys_lem, waits}
 use Rattle.threads.specs.Rows.{Leads}
 use Rattle.threads.specs.Threads.{Held, Sortable}
-use Rattle.threads.proofs.Threading.{held_small}
+use Rattle.keyset.proofs.Small.{member_small}
 use Rattle.order.specs.Setup.{Sorted}
 use Rattle.linked.specs.Linked.{Linked}
 use Rattle.linked.proofs.Turns.{in_turn}
@@ -70,7 +71,7 @@ module _ (s : List ℕ) (m : Key) (x : Cabinet) (links : ℕ) (L : Linked s m x 
   module _ (marks : List ℕ) (n : ℕ) (C : Closed x m marks n) where
     reached : (k : Key) → Held marks k ↔ LeadsTo x m k
     reached k = (
-      λ h. (C.exact k).0 ((C.holds.exact k (held_small marks C.holds.whole k h)).0 h),
+      λ h. (C.exact k).0 ((C.holds.exact k (member_small marks C.holds.whole k h)).0 h),
       λ l. let i = (C.exact k).1 l in (C.holds.exact k (C.small k i)).1 i,
     )
 
@@ -139,7 +140,7 @@ module _ (s : List ℕ) (m : Key) (x : Cabinet) (links : ℕ) (L : Linked s m x 
           positive k (inr w) = (goes_key of m k L.key stands (inr w)).0
 
           each : (k : Key) → (k < 65536) × (member marks' k ≡ true) ↔ (0 < k) × Goes of m k
-          each k = ((λ w. let z = (with_key k).0 w.1 in (positive k z, z)), λ w. let h = (with_key k).1 w.1 in (held_small marks' whole k h, h))
+          each k = ((λ w. let z = (with_key k).0 w.1 in (positive k z, z)), λ w. let h = (with_key k).1 w.1 in (member_small marks' whole k h, h))
 
     -- the row is too short
     pub too_short : m < 65536 → (row : List ℕ) → length row ≤ n → TakeBack s m row 9 0 s row
@@ -166,7 +167,3 @@ module _ (s : List ℕ) (m : Key) (x : Cabinet) (links : ℕ) (L : Linked s m x 
       pub taken_back : TakeBack s m row 0 (n + 1) s' (set row₁ n m)
       taken_back = let w = turn in let e : s' ≡ encode w.0 = E.2 ∙ ap encode (ap (erase (member marks')) (reads_one s E.1.reads reads) ∙ sym w.2) in
           rw (e, row_more O.order row row₁ n m (sym O.count) h O.front, many) (TakeBack.done reads L.key verdict stands w.1 (omega (arith, many)))
-
--- a set is whole after a key was put into it
-pub set_whole : {marks marks' : List ℕ} {k g : ℕ} → Added marks k marks' g → length marks ≡ 8192 → length marks' ≡ 8192
-set_whole {marks} {k = k} A e = ap length A.result ∙ length_added marks k ∙ e

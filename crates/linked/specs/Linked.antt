@@ -2,7 +2,7 @@
 use Rattle.std.specs.Prelude.{true, List, ℕ, ◌<◌}
 use Rattle.ccsk.specs.Term.{Key}
 use Rattle.operations.specs.Ask.{Soundness}
-use Rattle.filing.specs.Cabinet.{Cabinet}
+use Rattle.filing.specs.declared.Cabinet.{Cabinet}
 use Rattle.filing.specs.Record.{Stands, AllFiled, FiledUpTo}
 
 pub record Linked (s : List ℕ) (m : Key) (x : Cabinet) (links : ℕ) : Type 0 where

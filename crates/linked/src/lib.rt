@@ -2,38 +2,35 @@
 // Helpers between crates, with what each asks of its caller.
 #![tactic(auto)]
 
+ghost use Rattle.std.specs.Prelude.{◌≡◌};
 ghost use Rattle.operations.specs.TakeBack.{TakeBack};
-ghost use Rattle.shared.specs.Number.{refusal, value};
-ghost use Rattle.filing.specs.Cabinet.{cabinet};
+ghost use Rattle.shared.specs.Refusal.{refusal, value};
 ghost use Rattle.linked.specs.Linked.{Linked};
 
-use filing::LINKS;
-use keyset::BYTES;
-use shared::{Number, SHORT_ROW};
+use filing::Cabinet;
+use keyset::KeySet;
+use shared::Refusal;
 
 // Takes a key of a sound record back, whose links are filed. The key itself goes last, since it waits for all others that go.
 pub fn take_linked(
     bytes: &mut [u8],
     key: u16,
     links: usize,
-    upper: &mut [u16],
-    lower: &[u16],
-    older: &mut [u16],
-    latest: &[u16],
+    cabinet: &mut Cabinet,
     row: &mut [u16],
-) -> Number
-    requires { Linked bytes.old key (cabinet upper.old lower.now older.old latest.now) links }
-    ensures { TakeBack bytes.old key row.old (refusal result) (value result) bytes.new row.new }
+) -> Result<usize, Refusal>
+    requires { Linked bytes.old key cabinet.old links }
+    ensures takes_back { TakeBack bytes.old key row.old (refusal result) (value result) bytes.new row.new }
+    ensures kept { (cabinet.new.lower ≡ cabinet.old.lower) × (cabinet.new.latest ≡ cabinet.old.latest) }
 {
-    let mut marks = [0u8; BYTES];
-    let mut queue = [0u16; LINKS];
-    let waits = chains::reach(key, upper, lower, older, latest, &mut marks, &mut queue);
+    let mut set = KeySet::new();
+    let waits = chains::reach(cabinet, key, &mut set);
     if row.len() <= waits {
-        return Number::Refused(SHORT_ROW);
+        return Err(Refusal::ShortRow);
     }
-    order::order(&marks, waits, links, upper, lower, older, row);
+    order::order(&set, waits, links, cabinet, row);
     row[waits] = key;
-    keyset::add(&mut marks, key);
-    keys::erase(bytes, &marks);
-    Number::Is(waits + 1)
+    set.add(key);
+    keys::erase(bytes, &set);
+    Ok(waits + 1)
 }

@@ -3,6 +3,7 @@
 
 mod lines;
 mod out;
+mod text;
 
 // One byte more than the longest record, enough to decide any input.
 const INPUT: usize = 16385;
@@ -10,5 +11,5 @@ const INPUT: usize = 16385;
 fn main() {
     let mut buffer = [0u8; INPUT];
     let n = io::read_full(0, &mut buffer);
-    lines::list(&buffer[..n]);
+    let _ = lines::list(&buffer[..n]);
 }

@@ -66,7 +66,7 @@ module _ {n : ℕ} {keys ups olds heads : List ℕ} (c : Scene n keys ups olds h
     next : Last (Among n keys) c.us c.ls (get_or keys r 0) i (get_or olds i 0)
     next = c.older r i T.number here
 
-    pub next_less : get_or olds i 0 < i
+    next_less : get_or olds i 0 < i
     next_less = next.before
 
     -- no row between this one and the next leads to the key from one that has a number

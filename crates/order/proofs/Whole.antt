@@ -13,15 +13,16 @@ use Rattle.ccsk.proofs.Lists.{get_or_zeros}
 use Rattle.ccsk.specs.Term.{Key}
 use Rattle.keyset.specs.Set.{member, members_below, Fronted}
 use Rattle.keyset.proofs.Members.{members_absent, members_there}
-use Rattle.rank.specs.Rank.{rank, Ranked}
+use Rattle.filing.specs.declared.Cabinet.{Cabinet}
+use Rattle.rank.specs.Rank.{rank}
 use Rattle.rank.proofs.Ranks.{rank_less, rank_ordered, rank_reached, rank-length}
 use Rattle.order.specs.Peels.{Free, Peels, end, next}
 use Rattle.threads.specs.Rows.{owing, Among, Last}
-use Rattle.order.specs.Steps.{Scene, State, InOrder, PeelsAll}
+use Rattle.order.specs.Steps.{Scene, State, InOrder}
 use Rattle.threads.specs.Threads.{Held, Sortable, Ready, Threaded}
 use Rattle.order.specs.Setup.{Sorted, Planted}
 use Rattle.threads.proofs.Counting.{stands_inside}
-use Rattle.threads.proofs.Threading.{held_small}
+use Rattle.keyset.proofs.Small.{member_small}
 
 -- The key with the rank r stands in place r of the list of keys.
 members_at : (s : List ℕ) (n : ℕ) (k : Key) → k < n → member s k ≡ true → get_or (members_below s n) (rank s k) 0 ≡ k
@@ -53,7 +54,7 @@ peels_same f (next L p) = next (record { free = free_same f L.free; least = λ j
 
 module _ (marks : List ℕ) (n links : ℕ) (us ls : List ℕ) (S : Sortable marks n links us ls) (keys₀ keys : List ℕ) (F : Fronted (members_below marks 65536) keys₀ keys) where
   key_standing_at : (k : Key) → Held marks k → (rank marks k < n) × (get_or keys (rank marks k) 0 ≡ k)
-  key_standing_at k h = let g = held_small marks S.whole k h in let r = rank_less marks k 65536 h g in
+  key_standing_at k h = let g = member_small marks S.whole k h in let r = rank_less marks k 65536 h g in
       (omega (arith, r, S.count), rw F (get_or-append (members_below marks 65536) _ 0 (rank marks k) (omega (arith, r, rank-length marks 65536)) ∙ members_at marks 65536 k g h))
 
   number : (r : ℕ) → r < n → Held marks (get_or keys r 0) × (rank marks (get_or keys r 0) ≡ r)
@@ -77,9 +78,8 @@ module _ (marks : List ℕ) (n links : ℕ) (us ls : List ℕ) (S : Sortable mar
       pick zero e = absurd (true≢false (sym (subst (Held marks) e (number r h).0) ∙ S.zero))
       pick (suc k) e = omega arith
 
-  module _ (ups os hs cs tree : List ℕ) (T : Threaded marks us ls (length us) ups os hs cs) (P : Planted n cs tree)
-      (a : n ≤ length keys) (b : n ≤ length hs) (c : n ≤ length cs) where
-    pub scene : Scene n keys ups os hs
+  module _ (x : Cabinet) (hs cs tree : List ℕ) (T : Threaded marks us ls (length us) x hs cs) (P : Planted n cs tree) (c : n ≤ length cs) where
+    pub scene : Scene n keys x.upper x.older hs
     scene = record {
       us = us;
       ls = ls;
@@ -92,11 +92,7 @@ module _ (marks : List ℕ) (n links : ℕ) (us ls : List ℕ) (S : Sortable mar
       older = λ r i h u. last_same among (older r i h u.0 ((among (get_or us i 0)).1 u.1));
       named = λ r i h e. let w = number r h in named i (subst (Held marks) (sym e) w.0) ∙ ap (rank marks) e ∙ w.1;
       few = S.few;
-      long_ups = T.long_ups;
-      long_olds = T.long_olds;
-      long_keys = a;
-      long_heads = b;
-      rows = omega (arith, S.upper);
+      rows = S.upper;
     }
       where
         inside : (i : ℕ) → Held marks (get_or us i 0) → i < length us
@@ -105,10 +101,10 @@ module _ (marks : List ℕ) (n links : ℕ) (us ls : List ℕ) (S : Sortable mar
             positive_held : (k : Key) → Held marks k → 0 < k
             positive_held k g = let w = key_standing_at k g in rw (← w.1) (positive (rank marks k) w.0)
 
-        older : (r i : ℕ) → r < n → get_or ls i 0 ≡ get_or keys r 0 → Held marks (get_or us i 0) → Last (Held marks) us ls (get_or keys r 0) i (get_or os i 0)
+        older : (r i : ℕ) → r < n → get_or ls i 0 ≡ get_or keys r 0 → Held marks (get_or us i 0) → Last (Held marks) us ls (get_or keys r 0) i (get_or x.older i 0)
         older r i h e u = T.older (get_or keys r 0) i (number r h).0 (inside i u) e u
 
-        named : (i : ℕ) → Held marks (get_or us i 0) → get_or ups i 0 ≡ rank marks (get_or us i 0)
+        named : (i : ℕ) → Held marks (get_or us i 0) → get_or x.upper i 0 ≡ rank marks (get_or us i 0)
         named i h = T.named i (inside i h) h
 
     pub state : State scene [] cs tree
@@ -123,24 +119,20 @@ module _ (marks : List ℕ) (n links : ℕ) (us ls : List ℕ) (S : Sortable mar
     }
 
     -- the order of the scene is the order of the set
-    pub sorted : (row row' : List ℕ) → PeelsAll n keys ups os hs cs tree row row' → Sorted marks n us ls row row'
+    pub sorted : (row row' : List ℕ) → ((c : Scene n keys x.upper x.older hs) → State c [] cs tree → InOrder n keys c.us c.ls row row') → Sorted marks n us ls row row'
     unfolding scene
     sorted row row' A = let O : InOrder n keys us ls row row' = A scene state in record { order = O.order; peels = peels_same (λ k. ((among k).1, (among k).0)) O.peels; count = O.count; front = O.front }
 
 -- rows of zeros with a place for each node are ready
 module _ (marks : List ℕ) (n links : ℕ) (us ls : List ℕ) (S : Sortable marks n links us ls) where
-  pub ranked_keys : Sortable marks (rank marks 65536) links us ls
-  ranked_keys = subst (λ (x : ℕ). Sortable marks x links us ls) S.count S
-
   pub room : n ≤ length {A = ℕ} (replicate 4096 0)
   room = omega (arith, S.few, length-replicate {A = ℕ} 4096 0)
 
   pub listable : n ≡ length (members_below marks 65536)
   listable = S.count ∙ rank-length marks 65536
 
-  pub ready : (base os : List ℕ) → Ranked marks base → length os ≡ length us → Ready marks base us os (replicate 4096 0) (replicate 4096 0)
-  ready base os B e = record {
-    ranked = B;
+  pub ready : (x : Cabinet) → length x.older ≡ length x.upper → Ready marks x (replicate 4096 0) (replicate 4096 0)
+  ready x e = record {
     older = e;
     heads = omega (arith, room, S.count);
     counters = omega (arith, room, S.count);

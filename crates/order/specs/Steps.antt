@@ -6,6 +6,9 @@ use Rattle.sound.specs.Sound.{Chain}
 use Rattle.format.specs.Limits.{node_limit}
 use Rattle.least.specs.Board.{There, Board, Put}
 use Rattle.threads.specs.Rows.{Leads, owing, between, Among, Under, Last}
+use Rattle.filing.specs.declared.Cabinet.{Cabinet}
+use Rattle.order.specs.declared.Numbered.{Numbered}
+use Rattle.order.specs.declared.Going.{Going}
 use Rattle.order.specs.Peels.{Peels}
 
 -- n keys with numbers, in the list `keys`, and the rows between them. For each number the last row that leads to its key stands in `heads`,
@@ -22,11 +25,7 @@ pub record Scene (n : ℕ) (keys ups olds heads : List ℕ) : Type 0 where
   pub older : (r i : ℕ) → r < n → Under (Among n keys) us ls (get_or keys r 0) i → Last (Among n keys) us ls (get_or keys r 0) i (get_or olds i 0)
   pub named : (r i : ℕ) → r < n → get_or us i 0 ≡ get_or keys r 0 → get_or ups i 0 ≡ r
   pub few : n ≤ node_limit
-  pub long_ups : length ups ≡ length us
-  pub long_olds : length olds ≡ length us
-  pub long_keys : n ≤ length keys
-  pub long_heads : n ≤ length heads
-  pub rows : length us < 65536
+  pub rows : length us ≡ suc node_limit
 
 -- The keys of `out` are taken out. A counter says how many rows lead from its key to one that is not out, and in the tree stand the
 -- numbers of the keys that are free.
@@ -58,13 +57,14 @@ pub data Released (n u : ℕ) (counts tree : List ℕ) : List ℕ → List ℕ �
   came : {tree' : List ℕ} (v : ℕ) → get_or counts u 0 ≡ suc v → v ≡ 0 → Put n u tree tree' → Released n u counts tree (set counts u v) tree'
 
 -- some scene, with a key taken out whose release has not begun
-abbrev pub Releasable : ℕ → List ℕ → List ℕ → List ℕ → ℕ → List ℕ → List ℕ → Type 0
-Releasable n ups olds heads r counts tree = (keys : List Key) × (c : Scene n keys ups olds heads) × (out : List Key) × Taken c out r (get_or heads r 0) counts tree
+abbrev pub Releasable : Cabinet → Numbered → ℕ → Going → Type 0
+Releasable x k r l = (c : Scene l.free.n k.keys x.upper x.older k.heads) × (out : List Key) × Taken c out r (get_or k.heads r 0) l.counters l.free.tree
 
 -- In every scene: what stands right above the key was released.
-abbrev pub Releases : ℕ → List ℕ → List ℕ → List ℕ → ℕ → List ℕ → List ℕ → List ℕ → List ℕ → Type 0
-Releases n ups olds heads r counts tree counts' tree' =
-    (keys : List Key) (c : Scene n keys ups olds heads) (out : List Key) → Taken c out r (get_or heads r 0) counts tree → State c (get_or keys r 0 ∷ out) counts' tree'
+pub record Releases (x : Cabinet) (k : Numbered) (r : ℕ) (l l' : Going) : Type 0 where
+  pub many : l'.free.n ≡ l.free.n
+  pub released : (c : Scene l.free.n k.keys x.upper x.older k.heads) (out : List Key) → Taken c out r (get_or k.heads r 0) l.counters l.free.tree
+      → State c (get_or k.keys r 0 ∷ out) l'.counters l'.free.tree
 
 -- the keys with numbers, in the order in which they are taken out, stand at the front of the row
 pub record InOrder (n : ℕ) (keys us ls row row' : List ℕ) : Type 0 where
@@ -74,9 +74,10 @@ pub record InOrder (n : ℕ) (keys us ls row row' : List ℕ) : Type 0 where
   pub front : row' ≡ order ++ drop n row
 
 -- some scene from which nothing is taken out yet
-abbrev pub Peelable : ℕ → List ℕ → List ℕ → List ℕ → List ℕ → List ℕ → List ℕ → Type 0
-Peelable n keys ups olds heads counts tree = (c : Scene n keys ups olds heads) × State c [] counts tree
+abbrev pub Peelable : Cabinet → Numbered → Going → Type 0
+Peelable x k l = (c : Scene l.free.n k.keys x.upper x.older k.heads) × State c [] l.counters l.free.tree
 
 -- In every such scene: the keys are taken out in order.
-abbrev pub PeelsAll : ℕ → List ℕ → List ℕ → List ℕ → List ℕ → List ℕ → List ℕ → List ℕ → List ℕ → Type 0
-PeelsAll n keys ups olds heads counts tree row row' = (c : Scene n keys ups olds heads) → State c [] counts tree → InOrder n keys c.us c.ls row row'
+abbrev pub PeelsAll : Cabinet → Numbered → Going → List ℕ → List ℕ → Type 0
+PeelsAll x k l row row' =
+    (c : Scene l.free.n k.keys x.upper x.older k.heads) → State c [] l.counters l.free.tree → InOrder l.free.n k.keys c.us c.ls row row'

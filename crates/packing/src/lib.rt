@@ -3,21 +3,18 @@
 
 ghost use Rattle.std.specs.Prelude.{get_or, take, drop, ◌≡◌};
 ghost use Rattle.cursor.specs.At.{showing};
-ghost use Rattle.shared.specs.Number as number;
-ghost use Rattle.search.specs.First as first;
-ghost use Rattle.steps.specs.Plan as plan;
+ghost use Rattle.shared.specs.Refusal.{number, refusal, value};
+ghost use Rattle.search.specs.First.{found, first_place, second_place, label};
 ghost use Rattle.packing.specs.Packed.{step_answer, answer, node_answer};
-ghost use Rattle.packing.specs.Known.{Known};
 
 use cursor::Shown;
-use search::First;
-use shared::Number;
-use steps::Moved;
+use search::Step;
+use shared::Refusal;
 
 // What a refusal number is multiplied by: 2^8 in the answer of a step, 2^48 in the other answers.
 const STEP_REFUSAL: u32 = 256;
 
-pub const REFUSAL: u64 = 281474976710656;
+const REFUSAL: u64 = 281474976710656;
 
 // And the other fields: the mark by 2^40, the label by 2^32, p by 2^16.
 const MARK: u64 = 1099511627776;
@@ -32,33 +29,42 @@ const KIND: u64 = 72057594037927936;
 const KEY_HIGH: u64 = 16777216;
 
 // The answer of a step as one number.
-pub fn packed_step(given: Moved) -> u32
-    ensures { result ≡ step_answer (plan.refusal given) (plan.label given) }
+pub fn packed_step(given: Result<u8, Refusal>) -> u32
+    ensures { result ≡ step_answer (refusal given) (value given) }
 {
     match given {
-        Moved::Refused(c) => c as u32 * STEP_REFUSAL,
-        Moved::Done(l) => l as u32,
+        Err(r) => u32::from(u8::from(r)) * STEP_REFUSAL,
+        Ok(label) => u32::from(label),
     }
 }
 
+// A refusal, packed.
+pub fn packed_refusal(r: Refusal) -> u64
+    ensures { result ≡ answer (number r) 0 0 0 0 }
+{
+    u64::from(u8::from(r)) * REFUSAL
+}
+
 // An answer that is a number, packed.
-pub fn packed_number(given: Number) -> u64
-    ensures { result ≡ answer (number.refusal given) 0 0 0 (number.value given) }
+pub fn packed_number(given: Result<usize, Refusal>) -> u64
+    ensures { result ≡ answer (refusal given) 0 0 0 (value given) }
 {
     match given {
-        Number::Refused(c) => c as u64 * REFUSAL,
-        Number::Is(n) => n as u64,
+        Err(r) => packed_refusal(r),
+        Ok(n) => n as u64,
     }
 }
 
 // The answer of the search for a step, packed.
-pub fn packed_first(given: First) -> u64
-    ensures { result ≡ answer (first.refusal given) (first.found given) (first.label given) (first.first_place given) (first.second_place given) }
+pub fn packed_first(given: Result<Option<Step>, Refusal>) -> u64
+    ensures { result ≡ answer (refusal given) (found given) (label given) (first_place given) (second_place given) }
 {
     match given {
-        First::Refused(c) => c as u64 * REFUSAL,
-        First::None => 0,
-        First::Found { p, q, label } => MARK + label as u64 * LABEL + p as u64 * P + q as u64,
+        Err(r) => packed_refusal(r),
+        Ok(None) => 0,
+        Ok(Some(step)) => {
+            MARK + u64::from(step.label) * LABEL + u64::from(step.p) * P + u64::from(step.q)
+        }
     }
 }
 
@@ -66,35 +72,22 @@ pub fn packed_first(given: First) -> u64
 fn body_byte(record: &[u8], from: usize, long: usize, i: usize) -> u8
     ensures { result ≡ get_or (take long (drop from «record».now)) i 0 }
 {
-    if long <= i {
-        return 0;
-    }
-    if record.len() <= i {
-        return 0;
-    }
-    if record.len() - i <= from {
+    if long <= i || record.len() <= i || record.len() - i <= from {
         return 0;
     }
     record[from + i]
 }
 
 // What is shown of a node of the record, packed.
-pub fn packed_node(record: &[u8], given: Shown) -> u64
-    requires { Known given }
+pub fn packed_node(record: &[u8], given: Option<Shown>) -> u64
     ensures { result ≡ node_answer 0 (showing «record».now given) }
 {
-    match given {
-        Shown::Nothing => 0,
-        Shown::Node {
-            kind,
-            body,
-            length,
-            depth,
-        } => {
-            let first = body_byte(record, body, length, 0) as u64;
-            let high = body_byte(record, body, length, 1) as u64;
-            let low = body_byte(record, body, length, 2) as u64;
-            kind as u64 * KIND + MARK + first * LABEL + high * KEY_HIGH + low * P + depth as u64
-        }
-    }
+    let Some(node) = given else {
+        return 0;
+    };
+    let first = u64::from(body_byte(record, node.body, node.length, 0));
+    let high = u64::from(body_byte(record, node.body, node.length, 1));
+    let low = u64::from(body_byte(record, node.body, node.length, 2));
+    let kind = u64::from(u8::from(node.kind));
+    kind * KIND + MARK + first * LABEL + high * KEY_HIGH + low * P + u64::from(node.depth)
 }

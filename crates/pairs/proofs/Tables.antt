@@ -16,6 +16,9 @@ use Rattle.causes.specs.Tests.{EachKey, AtMostTwo, Complements, Beside, Enclosed
 use Rattle.causes.specs.Links.{renamed}
 use Rattle.causes.proofs.Renaming.{Blind, two_blind, complements_blind, beside_blind, enclosed_blind}
 use Rattle.causes.specs.Columns.{Below, Positive, Square}
+use Rattle.std.specs.Prelude.{Option, Some, None}
+use Rattle.pairs.specs.declared.Condition.{Condition}
+use Rattle.pairs.specs.declared.Condition.TheVariants.{Complementary, Apart, Hidden}
 use Rattle.pairs.specs.Rows.{table, rows_of, row, Indexed}
 use Rattle.pairs.specs.Cause.{Lowest, spots, of, EachBelow, CauseBelow, Placed, EachPlaced}
 
@@ -110,8 +113,24 @@ module _ (ks acs es ss us first second : List ℕ) (q : Square ks acs es ss us) 
   three_rows (suc k) h f = let z = (at_rows AtMostTwo two_blind (suc k)).0 (f (suc k) (omega arith)) in let y = spots-length acs es ss (rows_of (suc k) 0 ks) in omega arith
 
   -- the answer on rows is the answer on entries
-  pub lowest_rows : Indexed ks first second → (c : ℕ) → CauseBelow (length first) acs es ss first second c → Lowest (EachKey Complements l) (EachKey Beside l) (EachKey Enclosed l) c
-  lowest_rows x c r = record { least = r.least; most = r.most; holds₄ = λ h. (each_rows Complements complements_blind x).1 (r.holds₄ h); holds₅ = λ h. (each_rows Beside beside_blind x).1 (r.holds₅ h); holds₆ = λ h. (each_rows Enclosed enclosed_blind x).1 (r.holds₆ h); fails₄ = λ e f. r.fails₄ e ((each_rows Complements complements_blind x).0 f); fails₅ = λ e f. r.fails₅ e ((each_rows Beside beside_blind x).0 f); fails₆ = λ e f. r.fails₆ e ((each_rows Enclosed enclosed_blind x).0 f) }
+  pub lowest_rows : Indexed ks first second → (c : Option Condition) → CauseBelow (length first) acs es ss first second c → Lowest (EachKey Complements l) (EachKey Beside l) (EachKey Enclosed l) c
+  lowest_rows x c r = pick c r
+    where
+      four : EachKey Complements l ↔ EachBelow (length first) Complements acs es ss first second
+      four = each_rows Complements complements_blind x
+
+      five : EachKey Beside l ↔ EachBelow (length first) Beside acs es ss first second
+      five = each_rows Beside beside_blind x
+
+      six : EachKey Enclosed l ↔ EachBelow (length first) Enclosed acs es ss first second
+      six = each_rows Enclosed enclosed_blind x
+
+      pick : (c : Option Condition) → CauseBelow (length first) acs es ss first second c → Lowest (EachKey Complements l) (EachKey Beside l) (EachKey Enclosed l) c
+      pick None r = (four.1 r.0, five.1 r.1, six.1 r.2)
+      pick (Some Complementary) r = λ f. r (four.0 f)
+      pick (Some Apart) r = (four.1 r.0, λ f. r.1 (five.0 f))
+      pick (Some Hidden) r = (four.1 r.0, five.1 r.1, λ f. r.2 (six.0 f))
+      pick (Some _) r = absurd r
 
 -- the rows of an index lie in the columns
 rows_below : (m i : ℕ) (ks : List ℕ) (r : ℕ) → In r (rows_of m i ks) → r < i + length ks

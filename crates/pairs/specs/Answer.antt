@@ -1,16 +1,16 @@
 -- What the steps of the test on rows answer and leave behind.
-use Rattle.std.specs.Prelude.{◌≡◌, ◌≢◌, List, Bool, true, false, ℕ, zero, suc, ◌+◌, ◌<◌, length, get_or, set}
+use Rattle.std.specs.Prelude.{◌≡◌, ◌≢◌, List, Bool, true, false, ℕ, zero, suc, ◌+◌, ◌<◌, length, get_or}
 use Rattle.pairs.specs.Rows.{rows_of, Indexed}
 
 -- every number of the list is 0
 abbrev pub Zero : List ℕ → Type 0
 Zero l = (k : ℕ) → k < length l → get_or l k 0 ≡ 0
 
--- The row is noted, one higher, as the first or the second of k; or both were noted before, and nothing changes.
-pub data Entered (r k : ℕ) (first second : List ℕ) : List ℕ → List ℕ → Bool → Type 0 where
-  as_first : get_or first k 0 ≡ 0 → Entered r k first second (set first k (r + 1)) second true
-  as_second : get_or first k 0 ≢ 0 → get_or second k 0 ≡ 0 → Entered r k first second first (set second k (r + 1)) true
-  as_third : get_or first k 0 ≢ 0 → get_or second k 0 ≢ 0 → Entered r k first second first second false
+-- The row r is noted, one higher, as the first or the second; or both were noted before, and nothing changes.
+pub data Entered (r a b : ℕ) : ℕ → ℕ → Bool → Type 0 where
+  as_first : a ≡ 0 → Entered r a b (r + 1) b true
+  as_second : a ≢ 0 → b ≡ 0 → Entered r a b a (r + 1) true
+  as_third : a ≢ 0 → b ≢ 0 → Entered r a b a b false
 
 -- all rows are indexed, or some key stands in more than two
 abbrev pub Index : List ℕ → List ℕ → List ℕ → Bool → Type 0

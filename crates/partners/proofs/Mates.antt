@@ -2,34 +2,37 @@
 use mathlib.Core.Path.{◌≡◌, refl, sym, ◌∙◌}
 use mathlib.Core.Logic.{◌⊎◌, inl, inr, ⊎_elim, ◌≢◌, ◌↔◌}
 use mathlib.Core.List.{List}
-use mathlib.Core.Bool.{Bool, true, false, true≢false, cond, ◌&&◌}
+use mathlib.Core.Bool.{Bool, true}
+use Rattle.std.specs.Prelude.{Option, Some, None}
 use Prim.Native.Nat.{ℕ, ◌+◌, ◌<◌, ◌≤◌}
-use native.Mathlib.Decide.{ℕ_discrete}
 use native.Mathlib.Omega.{arith}
+use native.Mathlib.Decide.{ℕ_discrete}
 use borrow.Author.Tests.{eq-eqb, ne_eqb}
 use lib.Dec.{eqb}
-use lib.ListN.{length, get_or}
+use lib.ListN.{get_or}
+use Rattle.std.specs.Bool.{then_some}
 use Rattle.ccsk.specs.Term.{Term, Label, Node, Co, res, On, size}
 use Rattle.ccsk.proofs.Basic.{co_sym}
 use Rattle.labelset.specs.declared.Labels.{Labels}
 use Rattle.labelset.specs.Set.{Shows, Exactly}
 use Rattle.offers.specs.Offers.{Joins, Showing, At, OffersAt, JoinsAt}
-use Rattle.offers.specs.Forms.{Part}
 use Rattle.offers.proofs.Places.{trans, flip, at_in, at_one, at_two_lem, at_own, Pair, pair_in}
 use Rattle.offers.proofs.Parts.{Passes, Splits, Across, Meets, offers_under, joins_under, own_offers, own_joins, hidden_offers, hidden_joins}
 use Rattle.offers.proofs.Forms.{Form, nothing, own, next, second, either, both, hidden, form, Two, choice, parallel, two_parts}
 use Rattle.wanted.specs.Kept.{Covers}
-use Rattle.partners.specs.declared.Met.{Met}
+use Rattle.index.specs.declared.Rows.{Rows}
+use Rattle.index.specs.Whole.{forms, PartAt}
+use Rattle.showing.specs.declared.Places.{Places}
 use Rattle.showing.specs.Listed.{Listed, Lists}
 use Rattle.partners.specs.Met as met
-use Rattle.partners.specs.Met.{Is, Hides, Seeks}
+use Rattle.partners.specs.Met.{Hides, Answers}
 use Rattle.showing.proofs.Listing.{listed_none, listed_same, listed_both}
 
 -- what is met in one part
-record PartMet (F A E K : List ℕ) (n i : Node) (listing : Bool) (L : List ℕ) (t : Term) (L' : List ℕ) (r : Met) : Type 0 where
-  label : (l : Label) → OffersAt n t i l ↔ Is r.label l
-  mates : listing ≡ true → Covers F A E K → Listed (JoinsAt n t i) L 0 L' r.count
-  few : r.count ≤ n + size t
+record PartMet (R : Rows) (K : List Labels) (n i : Node) (listing : Bool) (L : Places) (t : Term) (L' : Places) (r : Option Label) : Type 0 where
+  label : (l : Label) → OffersAt n t i l ↔ (r ≡ Some l)
+  mates : listing ≡ true → Covers R K → Listed (JoinsAt n t i) L L'
+  few : L'.count ≤ n + size t
 
 -- two places of a node with two parts: both in one of them, or one in each
 pairs_split : {X : Node → Node → Type 0} {t u v : Term} (n k i j : Node) → k ≡ n + 1 + size u → Splits X t u v → JoinsAt n t i j ↔ (JoinsAt (n + 1) u i j ⊎ (JoinsAt k v i j ⊎ Pair n n X i j))
@@ -61,50 +64,46 @@ across u v n k i j e = pair_in (Meets u v) n 1 (1 + size u) (n + 1) k i j refl (
 past : {X Y : Type 0} → X ⊎ Y → ¬ X → Y
 past w e = ⊎_elim (λ z. absurd (e z)) (λ z. z) w
 
-module _ {F A E K : List ℕ} {n i : Node} {listing : Bool} {L : List ℕ} where
-  meets : {L' : List ℕ} {r : Met} {h : ℕ} → get_or F n 0 ≡ h → ((t : Term) → Form F A E n h t → PartMet F A E K n i listing L t L' r) → length L' ≡ length L → met.Meets F A E K n i listing L L' r
-  meets e f z = record { label = λ t P. (f t (rw e at (form n t P))).label; mates = λ b C t P. (f t (rw e at (form n t P))).mates b C; few = λ t P. (f t (rw e at (form n t P))).few; room = z }
+module _ {R : Rows} {K : List Labels} {n i : Node} {listing : Bool} {L : Places} where
+  meets : {L' : Places} {r : Option Label} {h : ℕ} → get_or (forms R) n 0 ≡ h → ((t : Term) → Form (forms R) R.args R.ends n h t → PartMet R K n i listing L t L' r) → met.Meets R K n i listing L L' r
+  meets e f = record { label = λ t P. (f t (rw e at (form n t P))).label; mates = λ b C t P. (f t (rw e at (form n t P))).mates b C; few = λ t P. (f t (rw e at (form n t P))).few }
 
   -- nothing is met
-  alone : {r : Met} {t : Term} → r.count ≡ 0 → ((l : Label) → OffersAt n t i l ↔ Is r.label l) → ((p q : Node) → ¬ Joins t p q) → PartMet F A E K n i listing L t L r
-  alone {r} e l f = record { label = l; mates = λ b C. rw e (listed_none (λ j w. f _ _ w.2.2)); few = omega arith }
+  alone : {r : Option Label} {t : Term} → L.count ≡ 0 → ((l : Label) → OffersAt n t i l ↔ (r ≡ Some l)) → ((p q : Node) → ¬ Joins t p q) → PartMet R K n i listing L t L r
+  alone {r} e l f = record { label = l; mates = λ b C. listed_none (λ j w. f _ _ w.2.2); few = omega arith }
 
   -- at the end of a way
-  pub meets_end : {a : Label} {b : Bool} → get_or F n 0 ≤ 1 → b ≡ (eqb (get_or F n 0) 1 && eqb n i) → a ≡ cond b (get_or A n 0) 128 → met.Meets F A E K n i listing L L (record { label = a; count = 0 })
-  meets_end {a} {b} h e d = meets refl (λ t w. of t w h e) refl
+  pub meets_nothing : L.count ≡ 0 → get_or (forms R) n 0 ≡ 0 → met.Meets R K n i listing L L None
+  meets_nothing z e = meets e of
     where
-      of : {f : ℕ} (t : Term) → Form F A E n f t → f ≤ 1 → b ≡ (eqb f 1 && eqb n i) → PartMet F A E K n i listing L t L (record { label = a; count = 0 })
-      of t (nothing s) h e = alone refl (λ l. rw (d, e) (λ w. absurd (s.offers w.0 l w.2), λ w. absurd (w.1 refl))) s.joins
-      of t (own {a = x} q f s) h e = alone refl (λ l. trans (at_own n i (λ p. own_offers s p l)) (rw (d, e, q) (pick l (ℕ_discrete n i)))) own_joins
-        where
-          pick : (l : Label) → Dec (n ≡ i) → ((i ≡ n) × (l ≡ x)) ↔ Is (cond (eqb n i) x 128) l
-          pick l (yes z) = rw (eq-eqb n i z) (λ w. (w.1, f), λ w. (sym z, w.0))
-          pick l (no z) = rw (ne_eqb n i z) (λ w. absurd (z (sym w.0)), λ w. absurd (w.1 refl))
-      of t (next P x) h e = absurd (omega arith)
-      of t (second m P q x) h e = absurd (omega arith)
-      of t (either P q x y) h e = absurd (omega arith)
-      of t (both P q x y) h e = absurd (omega arith)
-      of t (hidden q c x) h e = absurd (omega arith)
+      of : (t : Term) → Form (forms R) R.args R.ends n 0 t → PartMet R K n i listing L t L None
+      of t (nothing s) = alone z (λ l. (λ w. absurd (s.offers w.0 l w.2), λ w. cc)) s.joins
+
+  pub meets_own : {r : Option Label} → L.count ≡ 0 → get_or (forms R) n 0 ≡ 1 → ((l : Label) → (r ≡ Some l) ↔ ((i ≡ n) × (l ≡ get_or R.args n 0))) → met.Meets R K n i listing L L r
+  meets_own {r} z e f = meets e of
+    where
+      of : (t : Term) → Form (forms R) R.args R.ends n 1 t → PartMet R K n i listing L t L r
+      of t (own {a = x} q g s) = alone z (λ l. trans (at_own n i (λ p. own_offers s p l)) (rw q at (flip (f l)))) own_joins
 
   -- what is met in the one part that steps
-  passed : {L' : List ℕ} {r : Met} {t u : Term} {k : ℕ} (m : Node) → m ≡ n + k → Passes t k u → Part F A E m u → met.Meets F A E K m i listing L L' r → PartMet F A E K n i listing L t L' r
+  passed : {L' : Places} {r : Option Label} {t u : Term} {k : ℕ} (m : Node) → m ≡ n + k → Passes t k u → PartAt R m u → met.Meets R K m i listing L L' r → PartMet R K n i listing L t L' r
   passed {u = u} {k = k} m e P x M = record {
     label = λ l. trans (at_one n k m i e (λ q. P.offers q l)) (M.label u x l);
     mates = λ b C. listed_same (λ j. flip (pair_in (Joins u) n k k m m i j e e P.joins)) (M.mates b C u x);
     few = omega (arith, M.few u x, P.within);
   }
 
-  pub meets_next : {L' : List ℕ} {r : Met} → get_or F n 0 ≡ 2 → met.Meets F A E K (n + 1) i listing L L' r → met.Meets F A E K n i listing L L' r
-  meets_next {L'} {r} e M = meets e of M.room
+  pub meets_next : {L' : Places} {r : Option Label} → get_or (forms R) n 0 ≡ 2 → met.Meets R K (n + 1) i listing L L' r → met.Meets R K n i listing L L' r
+  meets_next {L'} {r} e M = meets e of
     where
-      of : (t : Term) → Form F A E n 2 t → PartMet F A E K n i listing L t L' r
+      of : (t : Term) → Form (forms R) R.args R.ends n 2 t → PartMet R K n i listing L t L' r
       of t (next P x) = passed (n + 1) refl P x M
 
-  pub meets_hidden : {L' : List ℕ} {below r : Label} {c : ℕ} → get_or F n 0 ≡ 6 → met.Meets F A E K (n + 1) i listing L L' (record { label = below; count = c }) → Hides (get_or A n 0) below r → met.Meets F A E K n i listing L L' (record { label = r; count = c })
+  pub meets_hidden : {L' : Places} {below r : Option Label} → get_or (forms R) n 0 ≡ 6 → met.Meets R K (n + 1) i listing L L' below → Hides (get_or R.args n 0) below r → met.Meets R K n i listing L L' r
   unfolding size
-  meets_hidden {L'} {below} {r} {c} e M H = meets e of M.room
+  meets_hidden {L'} {below} {r} e M H = meets e of
     where
-      of : (t : Term) → Form F A E n 6 t → PartMet F A E K n i listing L t L' (record { label = r; count = c })
+      of : (t : Term) → Form (forms R) R.args R.ends n 6 t → PartMet R K n i listing L t L' r
       of t (hidden {a = a} {t = u} d q x) = record {
         label = λ l. trans (through l) (trans (λ w. ((M.label u x l).0 w.0, w.1), λ w. ((M.label u x l).1 w.0, w.1)) (flip (rw d at (H.at l))));
         mates = λ b C. listed_same (λ j. flip (pair_in (Joins u) n 1 1 (n + 1) (n + 1) i j refl refl hidden_joins)) (M.mates b C u x);
@@ -115,11 +114,11 @@ module _ {F A E K : List ℕ} {n i : Node} {listing : Bool} {L : List ℕ} where
           through l = (λ w. let z = (hidden_offers w.0 l).0 w.2 in ((at_in _ n 1 (n + 1) i refl).0 (w.0, w.1, z.0), z.1), λ w. let z = (at_in _ n 1 (n + 1) i refl).1 w.0 in (z.0, z.1, (hidden_offers z.0 l).1 (z.2, w.1)))
 
   -- two parts: what is met in the one where the place stands
-  module _ {k : Node} (d : k ≡ get_or E (n + 1) 0) where
+  module _ {k : Node} (d : k ≡ get_or R.ends (n + 1) 0) where
     -- the two parts of a node, each where it begins
     module _ {X : Node → Node → Type 0} {t u v : Term} (P : Splits X t u v) (e : k ≡ n + 1 + size u) where
       -- the place stands on the right
-      on_right : {L' : List ℕ} {r : Met} → k ≤ i → ((j : Node) → ¬ Pair n n X i j) → Part F A E k v → met.Meets F A E K k i listing L L' r → PartMet F A E K n i listing L t L' r
+      on_right : {L' : Places} {r : Option Label} → k ≤ i → ((j : Node) → ¬ Pair n n X i j) → PartAt R k v → met.Meets R K k i listing L L' r → PartMet R K n i listing L t L' r
       on_right h f y M = record {
         label = λ l. trans (offers_two n k i e P l) (trans (λ w. ⊎_elim (λ z. absurd (omega (arith, z.1, offers_under z.2))) (λ z. z) w, inr) (M.label v y l));
         mates = λ b C. listed_same (λ j. flip (trans (pairs_split n k i j e P) (
@@ -130,7 +129,7 @@ module _ {F A E K : List ℕ} {n i : Node} {listing : Bool} {L : List ℕ} where
       }
 
       -- it stands on the left, and no partner on the right is listed
-      on_left : {L' : List ℕ} {r : Met} → i < k → (listing ≡ true → (j : Node) → ¬ Pair n n X i j) → Part F A E (n + 1) u → met.Meets F A E K (n + 1) i listing L L' r → PartMet F A E K n i listing L t L' r
+      on_left : {L' : Places} {r : Option Label} → i < k → (listing ≡ true → (j : Node) → ¬ Pair n n X i j) → PartAt R (n + 1) u → met.Meets R K (n + 1) i listing L L' r → PartMet R K n i listing L t L' r
       on_left h f x M = record {
         label = λ l. trans (left_label n k i e P h l) (M.label u x l);
         mates = λ b C. listed_same (λ j. flip (trans (pairs_split n k i j e P) (
@@ -140,10 +139,10 @@ module _ {F A E K : List ℕ} {n i : Node} {listing : Bool} {L : List ℕ} where
         few = omega (arith, M.few u x, P.within);
       }
 
-    pub meets_second : {L' : List ℕ} {r : Met} → 3 ≤ get_or F n 0 → get_or F n 0 ≢ 6 → (get_or F n 0 ≡ 3) ⊎ (k ≤ i) → met.Meets F A E K k i listing L L' r → met.Meets F A E K n i listing L L' r
-    meets_second {L'} {r} g h o M = meets refl (λ t w. of t w g h o) M.room
+    pub meets_second : {L' : Places} {r : Option Label} → 3 ≤ get_or (forms R) n 0 → get_or (forms R) n 0 ≢ 6 → (get_or (forms R) n 0 ≡ 3) ⊎ (k ≤ i) → met.Meets R K k i listing L L' r → met.Meets R K n i listing L L' r
+    meets_second {L'} {r} g h o M = meets refl (λ t w. of t w g h o)
       where
-        of : {f : ℕ} (t : Term) → Form F A E n f t → 3 ≤ f → f ≢ 6 → (f ≡ 3) ⊎ (k ≤ i) → PartMet F A E K n i listing L t L' r
+        of : {f : ℕ} (t : Term) → Form (forms R) R.args R.ends n f t → 3 ≤ f → f ≢ 6 → (f ≡ 3) ⊎ (k ≤ i) → PartMet R K n i listing L t L' r
         of t (nothing s) g h o = absurd (omega arith)
         of t (own x y s) g h o = absurd (omega arith)
         of t (next P x) g h o = absurd (omega arith)
@@ -152,21 +151,21 @@ module _ {F A E K : List ℕ} {n i : Node} {listing : Bool} {L : List ℕ} where
         of t (both {u = u} {v = v} P q x y) g h o = let g : k ≤ i = past o (λ e. omega (arith, e)) in on_right P (d ∙ q) g (λ j w. let z = (across u v n k i j (d ∙ q)).0 w in omega (arith, z.1, offers_under z.2.2.3, d, q)) (rw (d ∙ q) y) M
         of t (hidden q c x) g h o = absurd (h refl)
 
-    pub meets_left : {L' : List ℕ} {r : Met} → 3 < get_or F n 0 → get_or F n 0 ≢ 6 → i < k → Seeks (get_or F n 0) listing r.label false → met.Meets F A E K (n + 1) i listing L L' r → met.Meets F A E K n i listing L L' r
-    meets_left {L'} {r} a b h s M = meets refl (λ t w. of s (two_parts w a b)) M.room
+    pub meets_left : {L' : Places} {r : Option Label} → 3 < get_or (forms R) n 0 → get_or (forms R) n 0 ≢ 6 → i < k → (get_or (forms R) n 0 ≡ 5 → listing ≡ true → r ≡ None) → met.Meets R K (n + 1) i listing L L' r → met.Meets R K n i listing L L' r
+    meets_left {L'} {r} a b h s M = meets refl (λ t w. of s (two_parts w a b))
       where
-        of : {g : ℕ} {t : Term} → Seeks g listing r.label false → Two F A E n g t → PartMet F A E K n i listing L t L' r
+        of : {g : ℕ} {t : Term} → (g ≡ 5 → listing ≡ true → r ≡ None) → Two (forms R) R.args R.ends n g t → PartMet R K n i listing L t L' r
         of s (choice P q x y) = on_left P (d ∙ q) h (λ b j w. w.2.2) x M
-        of s (parallel {u = u} {v = v} P q x y) = on_left P (d ∙ q) h (λ b j w. ⊎_elim (λ z. z refl) (λ o. ⊎_elim (λ z. mute j w z) (λ z. true≢false (sym b ∙ z)) o) s) x M
+        of s (parallel {u = u} {v = v} P q x y) = on_left P (d ∙ q) h (λ b j w. mute j w (s refl b)) x M
           where
-            mute : (j : Node) → Pair n n (Across u v) i j → r.label ≡ 128 → ⊥
-            mute j w z = let y = (across u v n k i j (d ∙ q)).0 w in let m = y.2.2 in ((M.label u x m.0).0 (y.0, y.1, m.3)).1 z
+            mute : (j : Node) → Pair n n (Across u v) i j → r ≡ None → ⊥
+            mute j w z = let y = (across u v n k i j (d ∙ q)).0 w in let m = y.2.2 in let o : r ≡ Some m.0 = (M.label u x m.0).0 (y.0, y.1, m.3) in cc
 
     -- the partners on the right are listed behind those on the left
-    pub meets_both : {L' L'' : List ℕ} {l : Label} {c c' : ℕ} → get_or F n 0 ≡ 5 → i < k → l ≢ 128 → met.Meets F A E K (n + 1) i listing L L' (record { label = l; count = c }) → Lists F A E K k (Co l) L' c L'' c' → met.Meets F A E K n i listing L L'' (record { label = l; count = c' })
-    meets_both {L'' = L''} {l = l} {c' = c'} e h s M N = meets e of (N.room ∙ M.room)
+    pub meets_both : {L' L'' : Places} {r : Option Label} → get_or (forms R) n 0 ≡ 5 → i < k → met.Meets R K (n + 1) i listing L L' r → Lists R K k (Answers r) L' L'' → met.Meets R K n i listing L L'' r
+    meets_both {L'' = L''} {r = r} e h M N = meets e of
       where
-        of : (t : Term) → Form F A E n 5 t → PartMet F A E K n i listing L t L'' (record { label = l; count = c' })
+        of : (t : Term) → Form (forms R) R.args R.ends n 5 t → PartMet R K n i listing L t L'' r
         of t (both {u = u} {v = v} P q x a) = record {
           label = λ m. trans (left_label n k i (d ∙ q) P h m) (M.label u x m);
           mates = λ b C. listed_same (λ j. flip (trans (pairs_split n k i j (d ∙ q) P) (
@@ -176,26 +175,26 @@ module _ {F A E K : List ℕ} {n i : Node} {listing : Bool} {L : List ℕ} where
           few = omega (arith, N.few v y, P.within, d, q);
         }
           where
-            y : Part F A E k v
+            y : PartAt R k v
             y = rw (d ∙ q) a
 
-            there : (j : Node) → Pair (n + 1) k (Meets u v) i j → At k (Showing (Co l) v) j
-            there j f = let b = f.2 in let m = b.2 in (b.0, b.1, (m.1, rw ((M.label u x m.0).0 (f.0, f.1, m.3)).0 at m.2, m.4))
+            there : (j : Node) → Pair (n + 1) k (Meets u v) i j → At k (Showing (Answers r) v) j
+            there j f = let b = f.2 in let m = b.2 in (b.0, b.1, (m.1, (m.0, (M.label u x m.0).0 (f.0, f.1, m.3), m.2), m.4))
 
-            back : (j : Node) → At k (Showing (Co l) v) j → Pair (n + 1) k (Meets u v) i j
-            back j f = let g = f.2 in let m = (M.label u x l).1 (refl, s) in (m.0, m.1, (f.0, f.1, (l, g.0, g.1, m.2, g.2)))
+            back : (j : Node) → At k (Showing (Answers r) v) j → Pair (n + 1) k (Meets u v) i j
+            back j f = let g = f.2 in let w = g.1 in let m = (M.label u x w.0).1 w.1 in (m.0, m.1, (f.0, f.1, (w.0, g.0, w.2, m.2, g.2)))
 
--- what a restriction stops and lets through
-pub hides_stopped : {a : ℕ} {m : Label} → On a m → Hides a m 128
-hides_stopped o = record { at = λ l. (λ w. absurd (w.1 refl), λ w. absurd (w.1 (rw w.0.0 o))) }
-
-pub hides_open : {a : ℕ} {m : Label} → ¬ On a m → Hides a m m
-hides_open f = record { at = λ l. (λ w. (w, rw w.0 f), λ w. w.0) }
-
-pub seeks_asked : {f : ℕ} {l : Label} → f ≡ 5 → l ≢ 128 → (b : Bool) → Seeks f b l b
-seeks_asked e h true = (e, h)
-seeks_asked e h false = inr (inr refl)
+-- the action of a prefix is shown if it is the place that is looked for
+pub own_label : (n i a : ℕ) {r : Option Label} → r ≡ then_some (eqb n i) a → (l : Label) → (r ≡ Some l) ↔ ((i ≡ n) × (l ≡ a))
+own_label n i a {r} e l = pick (ℕ_discrete n i)
+  where
+    pick : Dec (n ≡ i) → (r ≡ Some l) ↔ ((i ≡ n) × (l ≡ a))
+    pick (yes z) = rw (e, eq-eqb n i z) (λ w. (sym z, let o : l ≡ a = cc in o), λ w. rw w.1 refl)
+    pick (no z) = rw (e, ne_eqb n i z) (λ w. cc, λ w. absurd (z (sym w.0)))
 
 -- the complements of the set with one label
-pub answers : {one want : Labels} {a : Label} → Exactly one (λ l. l ≡ a) → Exactly want (λ l. (m : ℕ) × Co l m × Shows one m) → (l : Label) → Shows want l ↔ Co a l
-answers {a = a} o w l = (λ z. let y = (w.at l).0 z in co_sym (rw ((o.at y.0).0 y.2) at y.1), λ z. (w.at l).1 (a, co_sym z, (o.at a).1 refl))
+pub answers : {one want : Labels} {r : Option Label} {a : Label} → r ≡ Some a → Exactly one (λ l. l ≡ a) → Exactly want (λ l. (m : ℕ) × Co l m × Shows one m) → (l : Label) → Shows want l ↔ Answers r l
+answers {a = a} e o w l = (
+  λ z. let y = (w.at l).0 z in (a, e, co_sym (rw ((o.at y.0).0 y.2) at y.1)),
+  λ z. let q : z.0 ≡ a = cc in (w.at l).1 (a, co_sym (rw q at z.2), (o.at a).1 refl),
+)

@@ -1,208 +1,148 @@
 // The partners of a place: a way down to it, and on the way back what stands to the right of it at each parallel.
 #![tactic(auto)]
 
-ghost use Rattle.std.specs.Prelude.{◌≡◌, cond, ◌+◌, ◌<◌, ◌≤◌, length, get_or};
+ghost use Rattle.std.specs.Prelude.{◌≡◌, ◌+◌, ◌<◌, ◌≤◌, get_or};
 ghost use Rattle.format.specs.Limits.{node_limit};
-ghost use Rattle.ccsk.specs.Term.{Co};
-ghost use Rattle.offers.specs.Forms.{SomePart};
-ghost use Rattle.index.specs.Whole.{Room};
+ghost use Rattle.index.specs.Whole.{SomePartAt};
 ghost use Rattle.showing.specs.Listed.{Lists};
-ghost use Rattle.partners.specs.Met.{Hides, Seeks, Meets};
-ghost use Rattle.partners.specs.Way.{Turns, Way, WayTo};
+ghost use Rattle.partners.specs.Met.{Hides, Answers, Meets};
+ghost use Rattle.partners.specs.Way.{OnWay, WayTo};
 
-use index::{BOTH, HIDDEN, NEXT, OWN, SECOND, second_part};
-use labelset::{complements, only};
-use reader::NODES;
-use shared::{NO_ACTION, Name, both, is_on, wide};
-use showing::list;
+use index::{Form, Rows};
+use labelset::Labels;
+use shared::{Name, is_on};
+use showing::{Places, list};
 use wanted::shows_none;
 
-// What a place meets: the label that it shows, no action where it shows none, and how many partners are listed.
-#[derive(Clone, Copy)]
-pub struct Met {
-    pub label: u8,
-    pub count: usize,
-}
-
-// Where a way stands: after so many turns, which are kept in a row, at a node, where its goal shows the label.
-#[derive(Clone, Copy)]
-pub struct Stand {
-    pub turns: usize,
+// A way down to a place: the nodes at which it turns, the node where it stands, and the label that its goal shows there.
+#[derive(Drop)]
+pub struct Way {
+    pub turns: Places,
     pub node: usize,
-    pub label: u8,
-}
-
-// Where every way begins.
-pub fn root() -> Stand
-    ensures { (result.turns ≡ 0) × (result.node ≡ 0) }
-{
-    Stand {
-        turns: 0,
-        node: 0,
-        label: NO_ACTION,
-    }
-}
-
-// Whether the way to node i turns at a node of two parts or a restriction, and does not go on at the second part.
-fn is_turn(form: u8, second: usize, i: usize) -> bool
-    ensures { Turns form second i result }
-{
-    if form == HIDDEN {
-        return true;
-    }
-    if form == SECOND {
-        return false;
-    }
-    i < second
-}
-
-// The action, if the test holds.
-fn shown_if(test: bool, action: u8) -> u8
-    ensures { result ≡ cond test action 128 }
-{
-    if test {
-        return action;
-    }
-    NO_ACTION
-}
-
-// The node of a turn; there is one below it.
-fn turn_at(k: usize, way: &[u16; NODES]) -> usize
-    requires { (k < length way.now) × (k < node_limit) × (get_or way.now k 0 + 1 < node_limit) }
-    ensures { (result ≡ get_or way.now k 0) × (result + 1 < node_limit) }
-{
-    wide(way[k])
-}
-
-// Leads a way on to node i: back from the parts that end before it, then down as far as it goes.
-pub fn lead(
-    i: usize,
-    from: Stand,
-    forms: &[u8; NODES],
-    args: &[u8; NODES],
-    ends: &[u16; NODES],
-    way: &mut [u16; NODES],
-) -> Stand
-    requires way { Way forms.now args.now ends.now way.old i from.turns from.node }
-    requires room { Room forms.now args.now ends.now × (length way.old ≡ node_limit) }
-    ensures { WayTo forms.now args.now ends.now way.new i result × (length way.new ≡ node_limit) }
-{
-    let mut turns = from.turns;
-    let mut n = from.node;
-    'back: while 0 < turns {
-        let last = turn_at(turns - 1, way);
-        if i < second_part(last, ends) {
-            break 'back;
-        }
-        turns -= 1;
-        n = last;
-    }
-    while OWN < forms[n] {
-        let form = forms[n];
-        let next = n + 1;
-        if form == NEXT {
-            n = next;
-            continue;
-        }
-        let second = second_part(n, ends);
-        if is_turn(form, second, i) {
-            way[turns] = n as u16;
-            turns += 1;
-            n = next;
-            continue;
-        }
-        n = second;
-    }
-    let own = both(forms[n] == OWN, n == i);
-    Stand {
-        turns: turns,
-        node: n,
-        label: shown_if(own, args[n]),
-    }
+    pub label: Option<u8>,
 }
 
 // What a restriction on the name leaves of a label.
-fn hide(name: u8, label: u8) -> u8
+fn hide(name: u8, label: Option<u8>) -> Option<u8>
     ensures { Hides name label result }
 {
-    if is_on(Name(name), label) {
-        return NO_ACTION;
-    }
-    label
+    label.filter(|l| !is_on(Name(name), *l))
 }
 
-// Whether partners of a place that shows the label are to be listed from the second part of a node.
-fn seeks(form: u8, listing: bool, label: u8) -> bool
-    ensures { Seeks form listing label result }
+// Lists the places of the part at node n that show the complement of the label, if there is a label, unless it is noted that no place does.
+fn list_answers(n: usize, label: Option<u8>, rows: &Rows, sets: &[Labels], mates: &mut Places)
+    requires some_part { SomePartAt rows.now n }
+    requires few { mates.old.count ≤ n }
+    ensures { Lists rows.now sets.now n (Answers label) mates.old mates.new }
 {
-    if form != BOTH {
-        return false;
-    }
-    if label == NO_ACTION {
-        return false;
-    }
-    listing
-}
-
-// Lists the places of the part at node n that show the complement of the label, unless it is noted that there is none.
-fn list_answers(
-    n: usize,
-    label: u8,
-    forms: &[u8; NODES],
-    args: &[u8; NODES],
-    ends: &[u16; NODES],
-    sets: &[u64],
-    row: &mut [u16; NODES],
-    count: usize,
-) -> usize
-    requires some_part { SomePart forms.now args.now ends.now n }
-    requires room { Room forms.now args.now ends.now × (length row.old ≡ node_limit) × (count ≤ n) }
-    ensures { Lists forms.now args.now ends.now sets.now n (Co label) row.old count row.new result }
-{
-    let want = complements(only(label));
-    if shows_none(n, want, sets) {
-        return count;
-    }
-    list(
-        n, want.a, want.b, want.c, want.d, forms, args, ends, sets, row, count,
-    )
-}
-
-// What the node i meets, to which the way leads: at each turn on the way back a restriction may hide its label, and, if it is asked to, the
-// second part of a parallel is searched for the places that step together with it.
-pub fn meet(
-    i: usize,
-    to: Stand,
-    listing: bool,
-    forms: &[u8; NODES],
-    args: &[u8; NODES],
-    ends: &[u16; NODES],
-    sets: &[u64],
-    way: &[u16; NODES],
-    row: &mut [u16; NODES],
-) -> Met
-    requires way_to { WayTo forms.now args.now ends.now way.now i to }
-    requires room { Room forms.now args.now ends.now × (length way.now ≡ node_limit) × (length row.old ≡ node_limit) }
-    ensures { Meets forms.now args.now ends.now sets.now 0 i listing row.old row.new result }
-{
-    let mut label = to.label;
-    let mut count: usize = 0;
-    let mut left = to.turns;
-    while 0 < left {
-        left -= 1;
-        let n = turn_at(left, way);
-        let form = forms[n];
-        if form == HIDDEN {
-            label = hide(args[n], label);
-            continue;
-        }
-        if seeks(form, listing, label) {
-            let second = second_part(n, ends);
-            count = list_answers(second, label, forms, args, ends, sets, row, count);
+    match label {
+        None => {}
+        Some(shown) => {
+            let want = Labels::only(shown).complements();
+            if !shows_none(n, want, sets) {
+                list(n, want, rows, sets, mates);
+            }
         }
     }
-    Met {
-        label: label,
-        count: count,
+}
+
+impl Way {
+    // The way that stands at the root, where every way begins.
+    pub fn new() -> Way
+        ensures { (result.turns.count ≡ 0) × (result.node ≡ 0) }
+    {
+        Way {
+            turns: Places::new(),
+            node: 0,
+            label: None,
+        }
+    }
+
+    // The node of a turn; there is one below it.
+    fn turn_at(&self, k: usize) -> usize
+        requires { (k < node_limit) × (get_or self.now.turns.row k 0 + 1 < node_limit) }
+        ensures { (result ≡ get_or self.now.turns.row k 0) × (result + 1 < node_limit) }
+    {
+        usize::from(self.turns.row[k])
+    }
+
+    // Leads the way on to node i: back from the parts that end before it, then down as far as it goes.
+    pub fn lead(&mut self, i: usize, rows: &Rows)
+        requires { OnWay rows.now i self.old }
+        ensures { WayTo rows.now i self.new }
+    {
+        // Turns are taken off the end of the row until one stays, and nodes are passed along links: there is no range to go over.
+        'back: while 0 < self.turns.count {
+            let last = self.turn_at(self.turns.count - 1);
+            if i < rows.second_part(last) {
+                break 'back;
+            }
+            self.turns.count -= 1;
+            self.node = last;
+        }
+        'down: loop {
+            // Tests of equality stand for a match, which would become a jump through a table that is guessed badly.
+            let n = self.node;
+            let form = rows.form_at(n);
+            if form == Form::Nothing {
+                self.label = None;
+                return;
+            }
+            if form == Form::Own {
+                self.label = (n == i).then_some(rows.args[n]);
+                return;
+            }
+            let next = n + 1;
+            if form == Form::Next {
+                self.node = next;
+                continue 'down;
+            }
+            if form == Form::Hidden {
+                self.turns.push(n);
+                self.node = next;
+                continue 'down;
+            }
+            let second = rows.second_part(n);
+            if form == Form::Second {
+                self.node = second;
+                continue 'down;
+            }
+            if second <= i {
+                self.node = second;
+                continue 'down;
+            }
+            self.turns.push(n);
+            self.node = next;
+        }
+    }
+
+    // The label that node i shows at the root, to which the way leads: at each turn on the way back a restriction may hide it. If it is asked to,
+    // this also lists, at each parallel, the places of the second part that step together with node i.
+    pub fn meet(
+        &self,
+        i: usize,
+        listing: bool,
+        rows: &Rows,
+        sets: &[Labels],
+        mates: &mut Places,
+    ) -> Option<u8>
+        requires { WayTo rows.now i self.now }
+        ensures { Meets rows.now sets.now 0 i listing (record mates.old { count = 0 }) mates.new result }
+    {
+        let mut label = self.label;
+        mates.count = 0;
+        for k in (0..self.turns.count).rev() {
+            let n = self.turn_at(k);
+            match rows.form_at(n) {
+                Form::Hidden => label = hide(rows.args[n], label),
+                Form::Both => {
+                    if listing {
+                        list_answers(rows.second_part(n), label, rows, sets, mates);
+                    }
+                }
+                _ => {}
+            }
+        }
+        label
     }
 }

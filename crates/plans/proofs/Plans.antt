@@ -1,152 +1,201 @@
 -- The plans of forward step and undo are what the promises ask for: a law for each way out.
-use mathlib.Core.Path.{◌≡◌, sym, ap, subst, ◌∙◌}
+use mathlib.Core.Path.{◌≡◌, refl, sym, ap, ◌∙◌}
 use mathlib.Core.Logic.{⊎_elim, ◌≢◌}
-use mathlib.Core.List.{List}
-use mathlib.Core.Bool.{Bool, true, false}
-use Prim.Native.Nat.{ℕ, ◌+◌, ◌<◌, ◌≤◌}
+use mathlib.Core.List.{List, [], ◌∷◌}
+use mathlib.Core.Bool.{true, false}
+use Prim.Native.Nat.{ℕ, zero, suc, ◌<◌}
 use native.Mathlib.Omega.{arith}
 use lib.Dec.{eqb}
 use lib.ListN.{length, get_or}
+use Rattle.std.specs.Prelude.{Option, Some, None, Ok, Err}
+use Rattle.std.specs.Option.{ok_or}
+use Rattle.std.proofs.lemmas.Bool.{cases_lt}
 use Rattle.ccsk.specs.Term.{Term, Label}
-use Rattle.format.specs.Read.{Reads, Refuses}
+use Rattle.format.specs.Read.{Reads}
 use Rattle.format.specs.Encode.{encode, Bytes}
 use Rattle.format.proofs.Unique.{encode-decode}
 use Rattle.operations.specs.Order.{ArePlaces}
-use Rattle.operations.specs.Change.{ForwardStep, UndoStep, ForwardStep.key_zero, UndoStep.key_zero}
+use Rattle.operations.specs.Change.{ForwardStep.key_zero, UndoStep.key_zero}
 use Rattle.moves.specs.Choose.{forward_choice, undo_choice, spots}
 use Rattle.moves.specs.Move.{step, stands, move}
+use Rattle.moves.specs.Move as pass
 use Rattle.moves.proofs.Answers.{spot_inside, are_places_one, are_places_two, forward_4_one, forward_4_two, forward_4_order, forward_5, forward_moves, forward_6, forward_done_one, forward_done_two, undo_7, undo_moves, undo_8, undo_spots, undo_done_one, undo_done_two}
+use Rattle.shared.specs.declared.Refusal.{Refusal}
+use Rattle.shared.specs.declared.Refusal.TheVariants.{KeyZero, NoPlaces, KeyStands, NoStep, KeyAbsent, NoUndo}
 use Rattle.findings.specs.declared.Move.{Move}
 use Rattle.findings.specs.declared.Move.TheVariants.{Still, Step, Stuck}
-use Rattle.findings.specs.declared.Ask.{Ask}
+use Rattle.findings.specs.declared.Ask.TheVariants.{Undo, Forward}
+use Rattle.findings.specs.declared.Places.TheVariants.{Zero, One, Two, More}
 use Rattle.findings.specs.declared.Seen.{Seen}
-use Rattle.plans.specs.declared.Plan.{Plan}
-use Rattle.plans.specs.declared.Plan.TheVariants.{Refused, One, Two}
-use Rattle.survey.specs.declared.pass.Whole.{Whole}
-use Rattle.survey.specs.declared.pass.Whole.TheVariants as whole
-use Rattle.findings.specs.Seen.{Found, move_of}
-use Rattle.survey.specs.Survey.{Looked}
-use Rattle.plans.specs.Plan.{planned, told, carried, Inside, place, settled}
+use Rattle.findings.specs.Seen.{Found, move_of, label_of, places_of}
+use Rattle.plans.specs.Plan.{Asked, ForwardPlan, UndoPlan}
 
--- what the pass over the whole record found, once its case is known
-module _ (s : List ℕ) (ask : Ask) (r : Whole) (w : Looked s ask r) where
-  pub whole_refused : (c : ℕ) → r ≡ whole.Refused c → Refuses s c
-  whole_refused c e = subst (Looked s ask) e w
+-- a list, from its places
+none_in : (l : List ℕ) → places_of l ≡ Zero → length l ≡ 0
+none_in [] e = refl
+none_in (i ∷ []) e = absurd cc
+none_in (i ∷ (j ∷ [])) e = absurd cc
+none_in (i ∷ (j ∷ (k ∷ l))) e = absurd cc
 
-  pub whole_seen : (x : Seen) → r ≡ whole.Seen x → (t : Term) × Reads s t × Found ask 0 0 t x
-  whole_seen x e = subst (Looked s ask) e w
+one_in : (l : List ℕ) (i : ℕ) → places_of l ≡ One i → (length l ≡ 1) × (get_or l 0 0 ≡ i)
+one_in [] i e = absurd cc
+one_in (h ∷ []) i e = (refl, cc)
+one_in (h ∷ (j ∷ [])) i e = absurd cc
+one_in (h ∷ (j ∷ (k ∷ l))) i e = absurd cc
 
-abbrev pub ask_forward : ℕ → ℕ → ℕ → Ask
-ask_forward p q m = record { undo = false; p = p; q = q; key = m }
+two_in : (l : List ℕ) (i j : ℕ) → places_of l ≡ Two i j → (length l ≡ 2) × (get_or l 0 0 ≡ i) × (get_or l 1 0 ≡ j)
+two_in [] i j e = absurd cc
+two_in (h ∷ []) i j e = absurd cc
+two_in (h ∷ (g ∷ [])) i j e = (refl, cc, cc)
+two_in (h ∷ (g ∷ (k ∷ l))) i j e = absurd cc
 
-abbrev pub ask_undo : ℕ → Ask
-ask_undo m = record { undo = true; p = 0; q = 0; key = m }
+more_in : (l : List ℕ) (n i j : ℕ) → places_of l ≡ More n i j → 2 < length l
+more_in [] n i j e = absurd cc
+more_in (h ∷ []) n i j e = absurd cc
+more_in (h ∷ (g ∷ [])) n i j e = absurd cc
+more_in (h ∷ (g ∷ (k ∷ l))) n i j e = omega arith
 
--- the plan is within the bytes, and what it answers and leaves is the forward step's
-abbrev pub ForwardPlan : List ℕ → ℕ → ℕ → ℕ → Plan → Type 0
-ForwardPlan s p q m r = Inside (length s) r × ForwardStep s p q m (planned r) (told r) (carried m r s)
+-- and its places, from how many they are
+zero_long : (l : List ℕ) → length l ≡ 0 → places_of l ≡ Zero
+zero_long [] e = refl
+zero_long (i ∷ l) e = absurd (omega arith)
 
-abbrev pub UndoPlan : List ℕ → ℕ → Plan → Type 0
-UndoPlan s m r = Inside (length s) r × UndoStep s m (planned r) (told r) (carried 0 r s)
+one_long : (l : List ℕ) → length l ≡ 1 → places_of l ≡ One (get_or l 0 0)
+one_long [] e = absurd (omega arith)
+one_long (i ∷ []) e = refl
+one_long (i ∷ (j ∷ l)) e = absurd (omega arith)
 
-module _ (s : List ℕ) (bytes : Bytes s) (p q m : ℕ) (x : Seen) (w : (t : Term) × Reads s t × Found (ask_forward p q m) 0 0 t x) where
+two_long : (l : List ℕ) → length l ≡ 2 → places_of l ≡ Two (get_or l 0 0) (get_or l 1 0)
+two_long [] e = absurd (omega arith)
+two_long (i ∷ []) e = absurd (omega arith)
+two_long (i ∷ (j ∷ [])) e = refl
+two_long (i ∷ (j ∷ (k ∷ l))) e = absurd (omega arith)
+
+-- a label that an answer is made of, or is missing from
+label_from : (o : Option ℕ) (e : Refusal) (l : ℕ) → Ok l ≡ ok_or o e → o ≡ Some l
+label_from None e l q = absurd cc
+label_from (Some k) e l q = cc
+
+none_from : (o : Option ℕ) (e r : Refusal) → Err r ≡ ok_or o e → (o ≡ None) × (r ≡ e)
+none_from None e r q = (refl, cc)
+none_from (Some k) e r q = absurd cc
+
+-- a move, from its label
+step_of : (y : Move) (l : Label) → label_of y ≡ Some l → move_of y ≡ step l
+step_of Still l e = absurd cc
+step_of (Step k) l e = ap step cc
+step_of Stuck l e = absurd cc
+
+no_step : (y : Move) (l : Label) → label_of y ≡ None → move_of y ≡ step l → ⊥
+no_step Still l e g = cc
+no_step (Step k) l e g = cc
+no_step Stuck l e g = cc
+
+module _ (s : List ℕ) (p q m : ℕ) (x : Seen) (w : (t : Term) × Reads s t × Found (Forward p q m) 0 0 t x) where
   abbrev t : Term
   t = w.0
 
+  abbrev here : List ℕ
+  here = spots (forward_choice p q) 0 0 t
+
   -- refusal 3
-  pub forward_zero : m ≡ 0 → ForwardPlan s p q m (Refused 3)
-  forward_zero e = (tt, key_zero w.1 e)
+  pub forward_zero : m ≡ 0 → ForwardPlan s p q m (Err KeyZero)
+  forward_zero e = key_zero w.1 e
 
   module _ (h : m ≢ 0) where
     pos : 0 < m
     pos = omega arith
 
     -- refusal 4
-    pub forward_not_one : q ≡ 0 → x.count ≢ 1 → ForwardPlan s p q m (Refused 4)
-    forward_not_one z f = (tt, forward_4_one s t p q m w.1 pos z (λ e. f (w.2.count ∙ e)))
-
-    pub forward_not_two : q ≢ 0 → x.count ≢ 2 → ForwardPlan s p q m (Refused 4)
-    forward_not_two z f = (tt, forward_4_two s t p q m w.1 pos z (λ e. f (w.2.count ∙ e)))
-
-    pub forward_not_after : q ≢ 0 → q ≤ p → ForwardPlan s p q m (Refused 4)
-    forward_not_after z f = (tt, forward_4_order s t p q m w.1 pos z f)
-
-    -- the key stands, or the rules derive no step, or it is made
-    settles : (two : Bool) → ArePlaces t p q → ((l : Label) → stands m t ≡ false → move (forward_choice p q) (λ k. eqb k 0) 0 t ≡ step l → ForwardPlan s p q m (place two l x.first x.second))
-        → ForwardPlan s p q m (settled x.stands two x.first x.second x.moved)
-    settles two a f = pick x.stands x.moved w.2.stands w.2.moved
+    pub forward_not : (r : Refusal) → Asked x.places p q (Err r) → ForwardPlan s p q m (Err r)
+    forward_not r (e, f, g) = rw e (by q refl)
       where
-        pick : (b : Bool) (y : Move) → b ≡ stands m t → move_of y ≡ move (forward_choice p q) (λ k. eqb k 0) 0 t → ForwardPlan s p q m (settled b two x.first x.second y)
-        pick true y e g = (tt, forward_5 s t p q m w.1 pos a (sym e))
-        pick false (Step l) e g = f l (sym e) (sym g)
-        pick false Still e g = absurd (forward_moves s t p q m w.1 pos a (sym e) (sym g))
-        pick false Stuck e g = (tt, forward_6 s t p q m w.1 pos a (sym e) (sym g))
+        by : (k : ℕ) → k ≡ q → ForwardPlan s p q m (Err NoPlaces)
+        by zero z = forward_4_one s t p q m w.1 pos (sym z) (λ l. f _ (sym z) (w.2.places ∙ one_long here l))
+        by (suc k) z = ⊎_elim (λ l. forward_4_two s t p q m w.1 pos (omega arith) (λ n. g _ _ l (w.2.places ∙ two_long here n))) (λ l. forward_4_order s t p q m w.1 pos (omega arith) l) (cases_lt p q)
 
-    encoded : encode t ≡ s
-    encoded = (encode-decode s t bytes w.1).0
+    module _ (i : ℕ) (o : Option ℕ) (a : Asked x.places p q (Ok (i, o))) where
+      asked : (o : Option ℕ) → Asked x.places p q (Ok (i, o)) → ArePlaces t p q
+      asked None (z, e) = are_places_one t p q z (one_in here i (sym w.2.places ∙ e)).0
+      asked (Some j) (z, e) = are_places_two t p q z (two_in here i j (sym w.2.places ∙ e)).0
 
-    inside : (k i : ℕ) → k < x.count → i ≡ get_or (spots (forward_choice p q) 0 0 t) k 0 → i + 3 < length s
-    inside k i l e = spot_inside (forward_choice p q) s t k i encoded (omega (arith, w.2.count)) (sym e)
+      -- refusal 5
+      pub forward_stands : x.stands ≡ true → ForwardPlan s p q m (Err KeyStands)
+      forward_stands e = forward_5 s t p q m w.1 pos (asked o a) (sym w.2.stands ∙ e)
 
-    pub forward_one : q ≡ 0 → x.count ≡ 1 → (r : Plan) → r ≡ settled x.stands false x.first x.second x.moved → ForwardPlan s p q m r
-    forward_one z c r e = rw e (settles false (are_places_one t p q z (sym w.2.count ∙ c)) make)
-      where
-        make : (l : Label) → stands m t ≡ false → move (forward_choice p q) (λ k. eqb k 0) 0 t ≡ step l → ForwardPlan s p q m (One l x.first)
-        make l f g = (inside 0 x.first (omega arith) w.2.first, forward_done_one s t p q m l x.first encoded w.1 pos z f g (sym w.2.count ∙ c) (sym w.2.first))
+      module _ (f : x.stands ≡ false) where
+        -- refusal 6
+        pub forward_none : (r : Refusal) → Err r ≡ ok_or (label_of x.moved) NoStep → ForwardPlan s p q m (Err r)
+        forward_none r e = let n = none_from _ _ r e in rw n.1 (by x.moved n.0 w.2.moved)
+          where
+            by : (y : Move) → label_of y ≡ None → move_of y ≡ move (forward_choice p q) (λ k. eqb k 0) 0 t → ForwardPlan s p q m (Err NoStep)
+            by Still e g = absurd (forward_moves s t p q m w.1 pos (asked o a) (sym w.2.stands ∙ f) (sym g))
+            by (Step l) e g = absurd cc
+            by Stuck e g = forward_6 s t p q m w.1 pos (asked o a) (sym w.2.stands ∙ f) (sym g)
 
-    pub forward_two : p < q → x.count ≡ 2 → (r : Plan) → r ≡ settled x.stands true x.first x.second x.moved → ForwardPlan s p q m r
-    forward_two z c r e = rw e (settles true (are_places_two t p q z (sym w.2.count ∙ c)) make)
-      where
-        make : (l : Label) → stands m t ≡ false → move (forward_choice p q) (λ k. eqb k 0) 0 t ≡ step l → ForwardPlan s p q m (Two l x.first x.second)
-        make l f g = (
-          (inside 0 x.first (omega arith) w.2.first, inside 1 x.second (omega arith) w.2.second),
-          forward_done_two s t p q m l x.first x.second encoded w.1 pos z f g (sym w.2.count ∙ c) (sym w.2.first) (sym w.2.second),
-        )
+        module _ (bytes : Bytes s) (l : Label) (g : Ok l ≡ ok_or (label_of x.moved) NoStep) where
+          encoded : encode t ≡ s
+          encoded = (encode-decode s t bytes w.1).0
 
-module _ (s : List ℕ) (bytes : Bytes s) (m : ℕ) (x : Seen) (w : (t : Term) × Reads s t × Found (ask_undo m) 0 0 t x) where
+          pub forward_made : ForwardPlan s p q m (Ok (record { label = l; first = i; second = o }))
+          forward_made = make o a
+            where
+              make : (o : Option ℕ) → Asked x.places p q (Ok (i, o)) → ForwardPlan s p q m (Ok (record { label = l; first = i; second = o }))
+              make None (z, e) = let n = one_in here i (sym w.2.places ∙ e) in (
+                (spot_inside (forward_choice p q) s t 0 i encoded (omega (arith, n.0)) n.1, tt),
+                forward_done_one s t p q m l i encoded w.1 pos z (sym w.2.stands ∙ f) (sym w.2.moved ∙ step_of x.moved l (label_from _ _ l g)) n.0 n.1,
+              )
+              make (Some j) (z, e) = let n = two_in here i j (sym w.2.places ∙ e) in (
+                (spot_inside (forward_choice p q) s t 0 i encoded (omega (arith, n.0)) n.1, spot_inside (forward_choice p q) s t 1 j encoded (omega (arith, n.0)) n.2),
+                forward_done_two s t p q m l i j encoded w.1 pos z (sym w.2.stands ∙ f) (sym w.2.moved ∙ step_of x.moved l (label_from _ _ l g)) n.0 n.1 n.2,
+              )
+
+module _ (s : List ℕ) (m : ℕ) (x : Seen) (w : (t : Term) × Reads s t × Found (Undo m) 0 0 t x) where
   abbrev u : Term
   u = w.0
 
+  abbrev there : List ℕ
+  there = spots (undo_choice m) 0 0 u
+
   -- refusal 3
-  pub undo_zero : m ≡ 0 → UndoPlan s m (Refused 3)
-  undo_zero e = (tt, key_zero w.1 e)
+  pub undo_zero : m ≡ 0 → UndoPlan s m (Err KeyZero)
+  undo_zero e = key_zero w.1 e
 
   module _ (h : m ≢ 0) where
     above : 0 < m
     above = omega arith
 
     -- refusal 7
-    pub undo_absent : x.count ≡ 0 → UndoPlan s m (Refused 7)
-    undo_absent e = (tt, undo_7 s u m w.1 above (sym w.2.count ∙ e))
-
-    moves : (y : Move) → x.moved ≡ y → move_of y ≡ move (undo_choice m) (λ k. true) 0 u
-    moves y e = sym (ap move_of e) ∙ w.2.moved
+    pub undo_absent : x.places ≡ Zero → UndoPlan s m (Err KeyAbsent)
+    undo_absent e = undo_7 s u m w.1 above (none_in there (sym w.2.places ∙ e))
 
     -- refusal 8
-    pub undo_stuck : x.moved ≡ Stuck → UndoPlan s m (Refused 8)
-    undo_stuck e = (tt, undo_8 s u m w.1 above (sym (moves Stuck e)))
+    fails : ((l : Label) → move (undo_choice m) (λ k. true) 0 u ≡ step l → ⊥) → (x.places ≡ Zero → ⊥) → UndoPlan s m (Err NoUndo)
+    fails g f = by (move (undo_choice m) (λ k. true) 0 u) refl
+      where
+        by : (y : pass.Move) → move (undo_choice m) (λ k. true) 0 u ≡ y → UndoPlan s m (Err NoUndo)
+        by pass.still e = absurd (undo_moves s u m w.1 above (λ z. f (w.2.places ∙ zero_long there z)) e)
+        by (pass.step l) e = absurd (g l e)
+        by pass.stuck e = undo_8 s u m w.1 above e
 
-    pub undo_still : x.count ≢ 0 → x.moved ≡ Still → UndoPlan s m (Refused 8)
-    undo_still f e = absurd (undo_moves s u m w.1 above (λ z. f (w.2.count ∙ z)) (sym (moves Still e)))
+    pub undo_more : (k i j : ℕ) → x.places ≡ More k i j → UndoPlan s m (Err NoUndo)
+    undo_more k i j e = let n = more_in there _ _ _ (sym w.2.places ∙ e) in fails (λ l g. ⊎_elim (λ z. omega (arith, n)) (λ z. omega (arith, n)) (undo_spots s u m w.1 above l g)) (λ z. absurd cc)
 
-    written : encode u ≡ s
-    written = (encode-decode s u bytes w.1).0
+    pub undo_none : (r : Refusal) → Err r ≡ ok_or (label_of x.moved) NoUndo → (x.places ≡ Zero → ⊥) → UndoPlan s m (Err r)
+    undo_none r e f = let n = none_from _ _ r e in rw n.1 (fails (λ l g. no_step x.moved l n.0 (w.2.moved ∙ g)) f)
 
-    within : (k i : ℕ) → k < x.count → i ≡ get_or (spots (undo_choice m) 0 0 u) k 0 → i + 3 < length s
-    within k i l e = spot_inside (undo_choice m) s u k i written (omega (arith, w.2.count)) (sym e)
+    module _ (bytes : Bytes s) (l : Label) (g : Ok l ≡ ok_or (label_of x.moved) NoUndo) where
+      written : encode u ≡ s
+      written = (encode-decode s u bytes w.1).0
 
-    pub undo_one : (l : ℕ) → x.moved ≡ Step l → x.count ≡ 1 → UndoPlan s m (One l x.first)
-    undo_one l e c = (within 0 x.first (omega arith) w.2.first, undo_done_one s u m l x.first written w.1 above (sym (moves (Step l) e)) (sym w.2.count ∙ c) (sym w.2.first))
+      pub undo_one : (i : ℕ) → x.places ≡ One i → UndoPlan s m (Ok (record { label = l; first = i; second = None }))
+      undo_one i e = let n = one_in there i (sym w.2.places ∙ e) in (
+        (spot_inside (undo_choice m) s u 0 i written (omega (arith, n.0)) n.1, tt),
+        undo_done_one s u m l i written w.1 above (sym w.2.moved ∙ step_of x.moved l (label_from _ _ l g)) n.0 n.1,
+      )
 
-    pub undo_two : (l : ℕ) → x.moved ≡ Step l → x.count ≢ 1 → UndoPlan s m (Two l x.first x.second)
-    undo_two l e c = let n : length (spots (undo_choice m) 0 0 u) ≡ 2 = ⊎_elim (λ z. absurd (c (w.2.count ∙ z))) (λ z. z) (undo_spots s u m w.1 above l (sym (moves (Step l) e))) in (
-      (within 0 x.first (omega (arith, w.2.count)) w.2.first, within 1 x.second (omega (arith, w.2.count)) w.2.second),
-      undo_done_two s u m l x.first x.second written w.1 above (sym (moves (Step l) e)) n (sym w.2.first) (sym w.2.second),
-    )
-
--- where a plan's places stand, once its case is known
-pub inside_one : (n : ℕ) (r : Plan) (l i : ℕ) → r ≡ One l i → Inside n r → i + 3 < n
-inside_one n r l i e h = subst (Inside n) e h
-
-pub inside_two : (n : ℕ) (r : Plan) (l i j : ℕ) → r ≡ Two l i j → Inside n r → (i + 3 < n) × (j + 3 < n)
-inside_two n r l i j e h = subst (Inside n) e h
+      pub undo_two : (i j : ℕ) → x.places ≡ Two i j → UndoPlan s m (Ok (record { label = l; first = i; second = Some j }))
+      undo_two i j e = let n = two_in there i j (sym w.2.places ∙ e) in (
+        (spot_inside (undo_choice m) s u 0 i written (omega (arith, n.0)) n.1, spot_inside (undo_choice m) s u 1 j written (omega (arith, n.0)) n.2),
+        undo_done_two s u m l i j written w.1 above (sym w.2.moved ∙ step_of x.moved l (label_from _ _ l g)) n.0 n.1 n.2,
+      )

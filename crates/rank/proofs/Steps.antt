@@ -1,7 +1,8 @@
 -- What the code computes, against ranks.
 use mathlib.Core.Path.{◌≡◌, refl, sym, ◌∙◌}
+use mathlib.Core.Logic.{◌≢◌}
 use mathlib.Core.List.{List}
-use mathlib.Core.Bool.{Bool, true, false}
+use mathlib.Core.Bool.{true, false}
 use Prim.Native.Nat.{ℕ, zero, suc, ◌+◌, ◌*◌, ◌<◌, ◌≤◌, ◌/◌, ◌%◌}
 use native.Mathlib.Decide.{ℕ_discrete, dec_lt}
 use native.Mathlib.Numerals.{add-one}
@@ -10,6 +11,7 @@ use lib.ListN.{length, get_or, set}
 use lib.Seq.{get_or-set_same, get_or-set_other}
 use Rattle.keyset.specs.Set.{member}
 use Rattle.keyset.proofs.Bits.{empty_bit}
+use Rattle.keyset.proofs.Steps.{true_false}
 use Rattle.rank.specs.Rank.{one_more, rank, Ranked}
 use Rattle.rank.proofs.Ranks.{rank_out, rank_ordered, rank_less}
 
@@ -25,58 +27,58 @@ skip s i zero n e h q = let z : n ≡ i * 8 = omega arith in rw z
 skip s i (suc j) zero e h q = absurd (omega arith)
 skip s i (suc j) (suc n) e h q = rank_out s n (empty_byte s i n e (omega arith)) ∙ skip s i j n e (omega arith) (omega arith)
 
-pub skip_byte : (s : List ℕ) (i n : ℕ) → get_or s i 0 ≡ 0 → n ≡ rank s (i * 8) → n ≡ rank s (i * 8 + 8)
+skip_byte : (s : List ℕ) (i n : ℕ) → get_or s i 0 ≡ 0 → n ≡ rank s (i * 8) → n ≡ rank s (i * 8 + 8)
 skip_byte s i n e q = q ∙ sym (skip s i 8 (i * 8 + 8) e (omega arith) refl)
-
--- what a test of the set answered
-pub counts_one : (r b : Bool) (n : ℕ) → r ≡ b → r ≡ true → n + 1 ≡ one_more b n
-counts_one r b n e q = rw (← e, q) (omega arith)
-
-pub counts_none : (r b : Bool) (n : ℕ) → r ≡ b → r ≡ false → n ≡ one_more b n
-counts_none r b n e q = rw (← e, q)
 
 -- a number further on
 pub climbs : (s : List ℕ) (k n r : ℕ) → r ≡ rank s k → n ≡ one_more (member s k) r → n ≡ rank s (k + 1)
 unfolding rank
 climbs s k n r e q = q ∙ rw (add-one k, e)
 
--- one byte further on
-pub ranks_more : (s : List ℕ) (base : List ℕ) (i n : ℕ) → i < length base → n ≡ rank s (i * 8) → ((j : ℕ) → j < i → get_or base j 0 ≡ rank s (j * 8)) → (j : ℕ) → j < i + 1 → get_or (set base i n) j 0 ≡ rank s (j * 8)
-ranks_more s base i n h e f j l = pick (ℕ_discrete j i)
-  where
-    pick : Dec (j ≡ i) → get_or (set base i n) j 0 ≡ rank s (j * 8)
-    pick (yes q) = rw (q, get_or-set_same base i n 0 h) e
-    pick (no q) = rw (get_or-set_other base i j n 0 q) (f j (omega arith))
+-- a byte with a member is not empty
+holds_some : (s : List ℕ) (k : ℕ) → member s k ≡ true → get_or s (k / 8) 0 ≢ 0
+holds_some s k m e = true_false (sym m ∙ empty_byte s (k / 8) k e refl)
 
-pub at_end : (s : List ℕ) (k n r : ℕ) → k ≤ n → n ≤ k → r ≡ rank s k → r ≡ rank s n
-at_end s k n r h l e = let q : n ≡ k = omega arith in rw q e
+-- no member, no byte to write down
+pub none_ranked : (s base : List ℕ) → 0 ≡ rank s 65536 → Ranked s base
+none_ranked s base e k l m = absurd (omega (arith, rank_less s k 65536 m l))
 
-pub next_byte : (s : List ℕ) (i n : ℕ) → n ≡ rank s (i * 8 + 8) → n ≡ rank s ((i + 1) * 8)
-next_byte s i n e = let q : (i + 1) * 8 ≡ i * 8 + 8 = omega arith in rw q e
+-- The bytes before place i were passed: for each that holds a member, the rank of its first number is written down.
+pub record Passed (s base : List ℕ) (i n : ℕ) : Type 0 where
+  pub next : n ≡ rank s (i * 8)
+  pub first : (j : ℕ) → j < i → get_or s j 0 ≢ 0 → get_or base j 0 ≡ rank s (j * 8)
 
-pub rank_nothing : (s : List ℕ) → 0 ≡ rank s 0
+pub passed_none : (s base : List ℕ) → Passed s base 0 0
 unfolding rank
-rank_nothing s = refl
+passed_none s base = record { next = refl; first = λ j h. absurd (omega arith) }
 
--- a byte is left as long as a member is not ranked
-pub byte_left : (s : List ℕ) (i n many : ℕ) → n ≡ rank s (i * 8) → many ≡ rank s 65536 → n < many → i < 8192
-byte_left s i n many e q h = pick (dec_lt i 8192)
-  where
-    pick : Dec (i < 8192) → i < 8192
-    pick (yes l) = l
-    pick (no l) = absurd (omega (arith, rank_ordered s 65536 (i * 8) (omega arith)))
+module _ (s base : List ℕ) (i n : ℕ) (P : Passed s base i n) where
+  -- once all are ranked, each stands in a byte that was passed
+  pub all_ranked : (many : ℕ) → many ≡ rank s 65536 → many ≤ n → Ranked s base
+  all_ranked many q h k l m = P.first (k / 8) (passed (dec_lt (k / 8) i)) (holds_some s k m)
+    where
+      passed : Dec (k / 8 < i) → k / 8 < i
+      passed (yes g) = g
+      passed (no g) = absurd (omega (arith, P.next, rank_less s k 65536 m l, rank_ordered s (i * 8) k (omega arith)))
 
--- once all are ranked, each stands in a byte that was passed
-pub all_ranked : (s base : List ℕ) (i n many : ℕ) → length base ≡ 8192 → n ≡ rank s (i * 8) → many ≡ rank s 65536 → many ≤ n → ((j : ℕ) → j < i → get_or base j 0 ≡ rank s (j * 8)) → Ranked s base
-all_ranked s base i n many w e q h f = record { whole = w; first = λ k l m. f (k / 8) (passed k l m (dec_lt (k / 8) i)) }
-  where
-    passed : (k : ℕ) → k < 65536 → member s k ≡ true → Dec (k / 8 < i) → k / 8 < i
-    passed k l m (yes g) = g
-    passed k l m (no g) = absurd (omega (arith, rank_less s k 65536 m l, rank_ordered s (i * 8) k (omega arith)))
+  -- an empty byte is passed at once
+  pub passed_empty : get_or s i 0 ≡ 0 → Passed s base (i + 1) n
+  passed_empty e = record { next = skip_byte s i n e P.next ∙ next_byte; first = λ j h z. P.first j (before j h z (ℕ_discrete j i)) z }
+    where
+      next_byte : rank s (i * 8 + 8) ≡ rank s ((i + 1) * 8)
+      next_byte = let q : (i + 1) * 8 ≡ i * 8 + 8 = omega arith in rw q
 
--- what was written down for the byte of a member
-pub first_of_byte : (s base : List ℕ) (k w n : ℕ) → Ranked s base → member s k ≡ true → k < 65536 → w ≡ k → n ≡ get_or base (w / 8) 0 → n ≡ rank s (w / 8 * 8)
-first_of_byte s base k w n r m h e q = q ∙ r.first w (omega arith) (rw e m)
+      before : (j : ℕ) → j < i + 1 → get_or s j 0 ≢ 0 → Dec (j ≡ i) → j < i
+      before j h z (yes q) = absurd (z (rw q e))
+      before j h z (no q) = omega arith
 
-pub same_rank : (s : List ℕ) (k w n : ℕ) → w ≡ k → n ≡ rank s w → n ≡ rank s k
-same_rank s k w n e q = rw (← e) q
+  -- any other is climbed
+  pub passed_byte : i < length base → (r : ℕ) → r ≡ rank s (i * 8 + 8) → Passed s (set base i n) (i + 1) r
+  passed_byte h r e = record { next = e ∙ next_byte; first = λ j l z. pick j l z (ℕ_discrete j i) }
+    where
+      next_byte : rank s (i * 8 + 8) ≡ rank s ((i + 1) * 8)
+      next_byte = let q : (i + 1) * 8 ≡ i * 8 + 8 = omega arith in rw q
+
+      pick : (j : ℕ) → j < i + 1 → get_or s j 0 ≢ 0 → Dec (j ≡ i) → get_or (set base i n) j 0 ≡ rank s (j * 8)
+      pick j l z (yes q) = rw (q, get_or-set_same base i n 0 h) P.next
+      pick j l z (no q) = rw (get_or-set_other base i j n 0 q) (P.first j (omega arith) z)

@@ -1,73 +1,78 @@
-// Dense numbers for the keys of a set: a member's rank is how many members are below it. Helpers between crates; each asks that the arrays are whole.
+// Dense numbers for the keys of a set: a member's rank is how many members are below it.
 #![tactic(auto)]
 
-ghost use Rattle.std.specs.Prelude.{◌≡◌, true, ◌+◌, ◌*◌, ◌≤◌, ◌<◌, length};
+ghost use Rattle.std.specs.Prelude.{◌≡◌, true, ◌+◌, ◌*◌, ◌≤◌, ◌<◌};
 ghost use Rattle.keyset.specs.Set.{member};
 ghost use Rattle.rank.specs.Rank.{one_more, rank, Ranked};
 
-use keyset::{BYTES, has};
-use shared::wide;
+use keyset::{BYTES, KeySet};
 
 // One more than n, if k is in the set.
-fn counted(marks: &[u8; BYTES], k: usize, n: usize) -> usize
-    requires marks_len { length marks.now ≡ 8192 }
-    requires k_bound { (k < 65536) × (n ≤ k) }
-    ensures { result ≡ one_more (member marks.now k) n }
+fn counted(set: &KeySet, k: usize, n: usize) -> usize
+    requires { (k < 65536) × (n ≤ k) }
+    ensures { result ≡ one_more (member set.now.bytes k) n }
 {
-    if has(marks, k as u16) {
-        return n + 1;
-    }
-    n
+    if set.has(k as u16) { n + 1 } else { n }
 }
 
 // The rank of `to`, from the rank n of `from`.
-fn climb(marks: &[u8; BYTES], from: usize, to: usize, n: usize) -> usize
-    requires marks_len { length marks.now ≡ 8192 }
-    requires from_le_to { (from ≤ to) × (to ≤ 65536) × (n ≡ rank marks.now from) }
-    ensures { result ≡ rank marks.now to }
+fn climb(set: &KeySet, from: usize, to: usize, n: usize) -> usize
+    requires { (from ≤ to) × (to ≤ 65536) × (n ≡ rank set.now.bytes from) }
+    ensures { result ≡ rank set.now.bytes to }
 {
-    let mut k = from;
     let mut r = n;
-    while k < to {
-        r = counted(marks, k, r);
-        k += 1;
+    for k in from..to {
+        r = counted(set, k, r);
     }
     r
 }
 
-// The rank of the first number after byte i, from the rank n of its first; an empty byte is passed at once.
-fn pass_byte(marks: &[u8; BYTES], i: usize, n: usize) -> usize
-    requires marks_len { length marks.now ≡ 8192 }
-    requires i_bound { (i < 8192) × (n ≡ rank marks.now (i * 8)) }
-    ensures { result ≡ rank marks.now (i * 8 + 8) }
-{
-    if marks[i] == 0 {
-        return n;
-    }
-    climb(marks, i * 8, i * 8 + 8, n)
-}
-
 // Writes down, for each byte that holds a member, the rank of its first number. All `many` members are ranked when the last such byte is
 // passed, so what lies behind the greatest member costs nothing.
-pub fn fill(marks: &[u8; BYTES], many: usize, base: &mut [u16; BYTES])
-    requires { (length marks.now ≡ 8192) × (length base.old ≡ 8192) × (many ≡ rank marks.now 65536) }
-    ensures { Ranked marks.now base.new }
+fn fill(set: &KeySet, many: usize, base: &mut [u16; BYTES])
+    requires { many ≡ rank set.now.bytes 65536 }
+    ensures { Ranked set.now.bytes base.new }
 {
-    let mut i: usize = 0;
+    if many == 0 {
+        return;
+    }
     let mut n: usize = 0;
-    while n < many {
-        base[i] = n as u16;
-        n = pass_byte(marks, i, n);
-        i += 1;
+    for i in 0..BYTES {
+        if set.bytes[i] != 0 {
+            base[i] = n as u16;
+            n = climb(set, i * 8, i * 8 + 8, n);
+            if n == many {
+                return;
+            }
+        }
     }
 }
 
-// The rank of a member: what is written down for its byte, and at most seven numbers more.
-pub fn rank(marks: &[u8; BYTES], base: &[u16; BYTES], key: u16) -> usize
-    requires { (length marks.now ≡ 8192) × Ranked marks.now base.now × (member marks.now key ≡ true) }
-    ensures { result ≡ rank marks.now key }
-{
-    let k = wide(key);
-    let at = k / 8;
-    climb(marks, at * 8, k, wide(base[at]))
+// The ranks of a set's members: for each byte that holds one, the rank of its first.
+#[derive(Clone, Copy)]
+pub struct Ranking<'a> {
+    pub set: &'a KeySet,
+    pub base: &'a [u16; BYTES],
+    pub ghost ranked: { Ranked set.now.bytes base.now },
+}
+
+impl<'a> Ranking<'a> {
+    // The ranks of the `many` members of the set. `base` is room to write them down.
+    pub fn of(set: &'a KeySet, many: usize, base: &'a mut [u16; BYTES]) -> Ranking<'a>
+        requires { many ≡ rank set.now.bytes 65536 }
+        ensures { result.set.now ≡ set.now }
+    {
+        fill(set, many, base);
+        Ranking { set, base }
+    }
+
+    // The rank of a member: what is written down for its byte, and at most seven numbers more.
+    pub fn rank(&self, key: u16) -> usize
+        requires { member self.now.set.now.bytes key ≡ true }
+        ensures { result ≡ rank self.now.set.now.bytes key }
+    {
+        let k = usize::from(key);
+        let at = k / 8;
+        climb(self.set, at * 8, k, usize::from(self.base[at]))
+    }
 }

@@ -12,11 +12,9 @@ use Rattle.format.specs.Read.{Reading, term, kind_of, key_of, onward, read, fini
 use Rattle.format.specs.Encode.{Bytes}
 use Rattle.format.proofs.Unique.{read_written}
 use Rattle.operations.specs.Ask.{ReadRecord, done}
-use Rattle.reader.specs.declared.Head.{Head}
-use Rattle.reader.specs.declared.Head.TheVariants.{Refused, Node}
 use Rattle.reader.specs.Head.{count_of_children, NodeAt, under}
 use Rattle.reader.specs.Walk.{Stops, NodeDue}
-use Rattle.reader.specs.Due.{stacked, push, Rest, stop, rest, after, read_all, Fits, Remains, Passed, Passes}
+use Rattle.reader.specs.Due.{stacked, push, Rest, stop, rest, after, read_all, Fits, Remains, Passed}
 use Rattle.reader.proofs.Heads.{by_kind}
 use Rattle.reader.proofs.Laws.{read_under}
 use Rattle.reader.proofs.Stack.{stacked-length, stacked_top, pushed}
@@ -128,14 +126,6 @@ module _ (s : List ℕ) where
 
         pub passed : (v : ℕ) → v ≡ get_or levels (many - 1) 0 - 1 → Passed s at left many kind children next (set (set levels (many - 1) v) many v)
         passed v e = record { inside = D.inside; nodes = omega (arith, D.nodes); deep = omega (arith, many_inside); good = D.good; remains = goes_on v e }
-
--- what passing a node comes to, once its case is known
-module _ (s : List ℕ) (at left many : ℕ) (h : Head) (levels : List ℕ) (P : Passes s at left many h levels) where
-  pub pass_refused : (c : ℕ) → h ≡ Refused c → Refuses s c
-  pass_refused c e = subst (λ (x : Head). Passes s at left many x levels) e P
-
-  pub pass_good : (kind children next : ℕ) → h ≡ Node kind children next → Passed s at left many kind children next levels
-  pass_good kind children next e = subst (λ (x : Head). Passes s at left many x levels) e P
 
 -- a prefix's key ends within the record
 pub key_inside : {s : List ℕ} {at kind children next : ℕ} → NodeAt s at kind children next → get_or s at 0 ≡ 1 → at + 3 < length s

@@ -1,5 +1,5 @@
 -- One node without its children, against the reading of a node.
-use mathlib.Core.Path.{◌≡◌, refl, sym, ◌∙◌}
+use mathlib.Core.Path.{◌≡◌, refl, sym, subst, ◌∙◌}
 use mathlib.Core.Logic.{◌≢◌}
 use mathlib.Core.List.{List, [], ◌∷◌}
 use Prim.Native.Nat.{ℕ, zero, suc, ◌+◌, ◌-◌, ◌<◌, ◌≤◌}
@@ -10,6 +10,9 @@ use borrow.Author.Tests.{ne_eqb, eq-eqb, le-leb, lt-leb}
 use lib.ListN.{length, drop, get_or, length-drop}
 use lib.Seq.{get_or-drop, drop-drop, drop-cons}
 use Rattle.format.specs.Read.{Reading, refused, kind_of, node}
+use Rattle.reader.specs.declared.Kind.{Kind}
+use Rattle.reader.specs.declared.Kind.TheVariants.{Nil, Prefix, Choice, Parallel, Restriction}
+use Rattle.reader.specs.Kind.{byte_of, children_of}
 use Rattle.reader.specs.Head.{body, count_of_children, under, NodeAt, NoNodeAt, KindAt}
 
 -- what holds of the five kinds holds of each number to 4
@@ -118,16 +121,14 @@ module _ (s : List ℕ) (at : ℕ) where
       whole : b ∷ drop (at + 1) s ≡ drop at s
       whole = rw (h.1, add-one at, ← drop-cons s at 0 h.0)
 
+  bare : (b : ℕ) → b ≤ 4 → KindAt b s at → Good b (drop (at + 1) s) → body b ≡ 0 → NodeAt s at b (count_of_children b) (at + 1)
+  bare b k h g e = let N = found b k h (omega (arith, e)) g in subst (NodeAt s at b (count_of_children b)) (omega (arith, e)) N
+
   pub at_no_kind : (b : ℕ) → b ≡ get_or s at 0 → 4 < b → NoNodeAt s at
   at_no_kind b e h = to b e (bad_kind _ b h)
 
-  pub at_nil_lem : KindAt 0 s at → NodeAt s at 0 (count_of_children 0) (at + 1 + body 0)
-  unfolding kind_of node under Good
-  at_nil_lem h = found 0 (omega arith) h (omega arith) (λ r k. refl)
-
   -- a choice or a parallel: what is known of one is known of the other
-  pub at_two_lem : (b : ℕ) → b ≤ 4 → KindAt b s at → (b ≡ 0 → ⊥) → (b ≡ 1 → ⊥) → (b ≡ 4 → ⊥)
-      → NodeAt s at b (count_of_children 3) (at + 1 + body 3)
+  pub at_two_lem : (b : ℕ) → b ≤ 4 → KindAt b s at → (b ≡ 0 → ⊥) → (b ≡ 1 → ⊥) → (b ≡ 4 → ⊥) → NodeAt s at b (count_of_children 3) (at + 1 + body 3)
   unfolding kind_of node under Good
   at_two_lem = by_kind (λ b. KindAt b s at → (b ≡ 0 → ⊥) → (b ≡ 1 → ⊥) → (b ≡ 4 → ⊥) → NodeAt s at b (count_of_children 3) (at + 1 + body 3))
       (λ h x y z. absurd (x refl))
@@ -135,6 +136,15 @@ module _ (s : List ℕ) (at : ℕ) where
       (λ h x y z. found 2 (omega arith) h (omega arith) (λ r k. refl))
       (λ h x y z. found 3 (omega arith) h (omega arith) (λ r k. refl))
       (λ h x y z. absurd (z refl))
+
+  -- a node of a kind without a body
+  pub at_no_body : (kind : Kind) → KindAt (byte_of kind) s at → (kind ≡ Prefix → ⊥) → (kind ≡ Restriction → ⊥) → NodeAt s at (byte_of kind) (children_of kind) (at + 1)
+  unfolding kind_of node under Good
+  at_no_body Nil h x y = bare 0 (omega arith) h (λ r k. refl) refl
+  at_no_body Prefix h x y = absurd (x refl)
+  at_no_body Choice h x y = bare 2 (omega arith) h (λ r k. refl) refl
+  at_no_body Parallel h x y = bare 3 (omega arith) h (λ r k. refl) refl
+  at_no_body Restriction h x y = absurd (y refl)
 
 -- a prefix, whose body has n bytes
 module _ (s : List ℕ) (at n : ℕ) (h : KindAt 1 s at) (e : n ≡ body 1) where

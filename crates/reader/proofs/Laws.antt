@@ -10,8 +10,11 @@ use lib.Seq.{drop-cons}
 use Rattle.ccsk.specs.Term.{Term, nil, pre, cho, par, res, size}
 use Rattle.format.specs.Read.{refused, kind_of, key_of, node, read}
 use Rattle.format.specs.Encode.{encode}
+use Rattle.std.specs.Prelude.{Result, Ok, Err}
+use Rattle.shared.specs.declared.Refusal.{Refusal}
+use Rattle.shared.specs.Refusal.{number}
 use Rattle.reader.specs.declared.Head.{Head}
-use Rattle.reader.specs.declared.Head.TheVariants as head
+use Rattle.reader.specs.Kind.{byte_of}
 use Rattle.reader.specs.Head.{body, count_of_children, under, NoNodeAt, Headed}
 use Rattle.reader.specs.Walk.{Stops, Walks, NodeDue, Due}
 use Rattle.reader.proofs.Heads.{by_kind}
@@ -60,17 +63,17 @@ module _ (s : List ℕ) (at d k : ℕ) (hs : at < length s) where
     stops_bad h = read_at ∙ h (read (d - 1)) (k - 1)
 
 -- the answer of `node_at` where a node is due
-pub due_head : (s : List ℕ) (at d k : ℕ) (h : Head) → at < length s → (d ≡ 0 → ⊥) → (k ≡ 0 → ⊥) → Headed s at h → Due s at d k h
-due_head s at d k (head.Refused c) hs hd hk H = rw H.0 (stops_bad s at d k hs hd hk H.1)
-due_head s at d k (head.Node kind children next) hs hd hk H = record { inside = hs; levels = hd; nodes = hk; good = H }
+pub due_head : (s : List ℕ) (at d k : ℕ) (h : Result Head Refusal) → at < length s → (d ≡ 0 → ⊥) → (k ≡ 0 → ⊥) → Headed s at h → Due s at d k h
+due_head s at d k (Err r) hs hd hk H = rw H.0 (stops_bad s at d k hs hd hk H.1)
+due_head s at d k (Ok h) hs hd hk H = record { inside = hs; levels = hd; nodes = hk; good = H }
 
 -- the answer of `node_due`, once its case is known
-module _ (s : List ℕ) (at d k : ℕ) (h : Head) (H : Due s at d k h) where
-  pub due_refused : (c : ℕ) → h ≡ head.Refused c → Stops s at d k c
+module _ (s : List ℕ) (at d k : ℕ) (r : Result Head Refusal) (H : Due s at d k r) where
+  pub due_refused : (c : Refusal) → r ≡ Err c → Stops s at d k (number c)
   due_refused c e = subst (Due s at d k) e H
 
-  pub due_node : (kind children next : ℕ) → h ≡ head.Node kind children next → NodeDue s at d k kind children next
-  due_node kind children next e = subst (Due s at d k) e H
+  pub due_node : (h : Head) → r ≡ Ok h → NodeDue s at d k (byte_of h.kind) h.children h.next
+  due_node h e = subst (Due s at d k) e H
 
 -- a good node is due
 module _ (s : List ℕ) (at d k kind children next : ℕ) (D : NodeDue s at d k kind children next) where

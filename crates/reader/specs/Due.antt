@@ -1,9 +1,11 @@
 -- What is due while a record is read: a stack in an array, and what reading the terms on it comes to.
-use Rattle.std.specs.Prelude.{◌≡◌, List, [], ◌∷◌, ℕ, zero, suc, ◌+◌, ◌-◌, ◌≤◌, ◌<◌, length, drop, get_or}
+use Rattle.std.specs.Prelude.{◌≡◌, List, [], ◌∷◌, ℕ, zero, suc, ◌+◌, ◌-◌, ◌≤◌, ◌<◌, length, drop, get_or, Result, Ok, Err}
 use Rattle.format.specs.Limits.{node_limit, depth_limit}
 use Rattle.format.specs.Read.{Reading, refused, term, read, Refuses}
+use Rattle.shared.specs.declared.Refusal.{Refusal}
+use Rattle.shared.specs.Refusal.{number}
 use Rattle.reader.specs.declared.Head.{Head}
-use Rattle.reader.specs.declared.Head.TheVariants.{Refused, Node}
+use Rattle.reader.specs.Kind.{byte_of}
 use Rattle.reader.specs.Head.{NodeAt}
 
 -- the first n elements of a list, the last of them first: a stack that grows to the right
@@ -52,6 +54,6 @@ pub record Passed (s : List ℕ) (at left many kind children next : ℕ) (levels
   pub remains : Remains s levels (many - 1 + children) (left - 1) next
 
 -- what `pass_node` answers: the record is refused, or its next node is passed
-abbrev pub Passes : List ℕ → ℕ → ℕ → ℕ → Head → List ℕ → Type 0
-Passes s at left many (Refused c) levels = Refuses s c
-Passes s at left many (Node kind children next) levels = Passed s at left many kind children next levels
+abbrev pub Passes : List ℕ → ℕ → ℕ → ℕ → Result Head Refusal → List ℕ → Type 0
+Passes s at left many (Err r) levels = Refuses s (number r)
+Passes s at left many (Ok h) levels = Passed s at left many (byte_of h.kind) h.children h.next levels

@@ -1,11 +1,13 @@
 -- One node without its children, as `node_at` finds it, against the reading of a record.
-use Rattle.std.specs.Prelude.{◌≡◌, List, ℕ, ◌<◌, ◌≤◌, ◌+◌, length, drop, get_or}
+use Rattle.std.specs.Prelude.{◌≡◌, List, ℕ, ◌<◌, ◌≤◌, ◌+◌, length, drop, get_or, Result, Ok, Err}
 use Rattle.ccsk.specs.Term.{nil, pre, cho, par, res}
 pub use Rattle.format.specs.Kinds.{count_of_children}
 use Rattle.format.specs.Kinds.{length_of_body}
 use Rattle.format.specs.Read.{Reading, refused, term, Kind, nil-kind, prefix-kind, choice-kind, parallel-kind, restriction-kind, no_kind, kind_of, key_of, node, one_child, two_children}
+use Rattle.shared.specs.declared.Refusal.{Refusal}
+use Rattle.shared.specs.Refusal.{number}
 use Rattle.reader.specs.declared.Head.{Head}
-use Rattle.reader.specs.declared.Head.TheVariants.{Refused, Node}
+use Rattle.reader.specs.Kind.{byte_of}
 
 -- how many bytes a body has, by kind
 abbrev pub body : ℕ → ℕ
@@ -38,6 +40,6 @@ abbrev pub KindAt : ℕ → List ℕ → ℕ → Type 0
 KindAt kind s at = (at < length s) × (kind ≡ get_or s at 0)
 
 -- what `node_at` answers
-abbrev pub Headed : List ℕ → ℕ → Head → Type 0
-Headed s at (Refused c) = (c ≡ 1) × NoNodeAt s at
-Headed s at (Node kind children next) = NodeAt s at kind children next
+abbrev pub Headed : List ℕ → ℕ → Result Head Refusal → Type 0
+Headed s at (Err r) = (number r ≡ 1) × NoNodeAt s at
+Headed s at (Ok h) = NodeAt s at (byte_of h.kind) h.children h.next

@@ -1,10 +1,12 @@
 -- The node that is due at a place, and the term that starts there, against the reading of a record.
-use Rattle.std.specs.Prelude.{◌≡◌, List, ℕ, ◌+◌, ◌<◌, length, drop}
+use Rattle.std.specs.Prelude.{◌≡◌, List, ℕ, ◌+◌, ◌<◌, length, drop, Result, Ok, Err}
 use Rattle.ccsk.specs.Term.{Term, size}
 use Rattle.format.specs.Read.{refused, term, read}
 use Rattle.format.specs.Encode.{encode}
+use Rattle.shared.specs.declared.Refusal.{Refusal}
+use Rattle.shared.specs.Refusal.{number}
 use Rattle.reader.specs.declared.Head.{Head}
-use Rattle.reader.specs.declared.Head.TheVariants.{Refused, Node}
+use Rattle.reader.specs.Kind.{byte_of}
 use Rattle.reader.specs.Head.{NodeAt}
 
 -- With d levels and k nodes left, reading at the place `at` of s is refused with c.
@@ -25,6 +27,6 @@ pub record NodeDue (s : List ℕ) (at d k kind children next : ℕ) : Type 0 whe
   pub good : NodeAt s at kind children next
 
 -- what `node_due` answers
-abbrev pub Due : List ℕ → ℕ → ℕ → ℕ → Head → Type 0
-Due s at d k (Refused c) = Stops s at d k c
-Due s at d k (Node kind children next) = NodeDue s at d k kind children next
+abbrev pub Due : List ℕ → ℕ → ℕ → ℕ → Result Head Refusal → Type 0
+Due s at d k (Err r) = Stops s at d k (number r)
+Due s at d k (Ok h) = NodeDue s at d k (byte_of h.kind) h.children h.next

@@ -1,14 +1,15 @@
 // Reading a record (01, The record): one node at a place, the node that is due, and the whole record.
 #![tactic(auto)]
 
-ghost use Rattle.std.specs.Prelude.{◌<◌, ◌≤◌, ◌≡◌, ◌≢◌, length};
+ghost use Rattle.std.specs.Prelude.{◌<◌, ◌≤◌, ◌≡◌, length, slice_index};
 ghost use Rattle.operations.specs.Ask.{ReadRecord};
-ghost use Rattle.reader.specs.Head.{body, count_of_children, KindAt, Headed};
+ghost use Rattle.reader.specs.Kind.{byte_of, Decodes, body_of, children_of};
+ghost use Rattle.reader.specs.Head.{KindAt, Headed};
 ghost use Rattle.reader.specs.Walk.{Due};
 ghost use Rattle.reader.specs.Due.{Remains, Passes};
-ghost use Rattle.shared.specs.Number.{refusal, value};
+ghost use Rattle.shared.specs.Refusal.{refusal, value};
 
-use shared::{LAST_NAME, NO_ACTION, NO_RECORD, Number, OVER_LIMIT, wide_byte};
+use shared::{LAST_NAME, NO_ACTION, Refusal};
 
 // The limits of a record: nodes, and levels.
 pub const NODES: usize = 4096;
@@ -18,206 +19,191 @@ pub const DEPTH: usize = 256;
 // The length of a stack with a number for each term that is due: a place for each level, and one to spare.
 pub const DUE: usize = DEPTH + 1;
 
-// The kinds of a node. The tables below give for each the length of its body and the number of its children.
-pub const NIL: usize = 0;
+// The kinds of a node. The tables give for each the length of its body and the number of its children.
+#[derive(Clone, Copy, PartialEq, Eq)]
+pub enum Kind {
+    Nil,
+    Prefix,
+    Choice,
+    Parallel,
+    Restriction,
+}
 
-pub const PREFIX: usize = 1;
+// The bytes of the kinds with a body, on which `node_at` tests: a match on the kind is slower there.
+const PREFIX: u8 = Kind::Prefix as u8;
 
-pub const CHOICE: usize = 2;
-
-pub const PARALLEL: usize = 3;
-
-pub const RESTRICTION: usize = 4;
+const RESTRICTION: u8 = Kind::Restriction as u8;
 
 const KINDS: usize = 5;
 
-pub const BODY: [usize; KINDS] = [0, 3, 0, 0, 1];
+const BODY: [usize; KINDS] = [0, 3, 0, 0, 1];
 
 const CHILDREN: [usize; KINDS] = [0, 1, 2, 2, 1];
 
-// What stands at a place: a refusal, or a node with so many children, whose body ends at `next`.
-#[derive(Clone, Copy)]
-pub enum Head {
-    Refused(u8),
-    Node {
-        kind: usize,
-        children: usize,
-        next: usize,
-    },
-}
+impl TryFrom<u8> for Kind {
+    type Error = Refusal;
 
-// How many bytes the body of a node of a known kind has.
-pub fn body_length(kind: usize) -> usize
-    requires { kind ≤ 4 }
-    ensures { result ≡ body kind }
-{
-    BODY[kind]
-}
+    ghost try_from_gives = { Decodes };
 
-// How many children a node of a known kind has.
-pub fn child_count(kind: usize) -> usize
-    requires { kind ≤ 4 }
-    ensures { result ≡ count_of_children kind }
-{
-    CHILDREN[kind]
-}
-
-// How many bytes the body of a node has that is no prefix. A walk that has a branch for a prefix asks here for the rest, and no table is
-// looked up.
-pub fn other_length(kind: usize) -> usize
-    requires { (kind ≤ 4) × (kind ≢ 1) }
-    ensures { result ≡ body kind }
-{
-    if kind == RESTRICTION {
-        return body_length(RESTRICTION);
+    fn try_from(byte: u8) -> Result<Kind, Refusal> {
+        match byte {
+            0 => Ok(Kind::Nil),
+            1 => Ok(Kind::Prefix),
+            2 => Ok(Kind::Choice),
+            3 => Ok(Kind::Parallel),
+            4 => Ok(Kind::Restriction),
+            _ => Err(Refusal::NoRecord),
+        }
     }
-    body_length(NIL)
+}
+
+impl From<Kind> for u8 {
+    ghost from_gives = { λ kind byte. byte ≡ byte_of kind };
+
+    fn from(kind: Kind) -> u8 {
+        kind as u8
+    }
+}
+
+impl Kind {
+    // How many bytes the body of a node of this kind has.
+    pub fn body(self) -> usize
+        ensures { result ≡ body_of self }
+    {
+        BODY[self as usize]
+    }
+
+    // How many children a node of this kind has.
+    pub fn children(self) -> usize
+        ensures { result ≡ children_of self }
+    {
+        CHILDREN[self as usize]
+    }
+}
+
+// The kind of the node at `at`. The caller has seen that a kind's byte stands there.
+pub fn kind_at(s: &[u8], at: usize) -> Kind
+    requires { (at < length s.now) × (slice_index s.now at ≤ 4) }
+    ensures { byte_of result ≡ slice_index s.now at }
+{
+    Kind::try_from(s[at]).unwrap()
+}
+
+// What stands at a place: a node with so many children, whose body ends at `next`.
+#[derive(Clone, Copy)]
+pub struct Head {
+    pub kind: Kind,
+    pub children: usize,
+    pub next: usize,
 }
 
 // The node at `at`, where a byte says that it is a prefix.
-fn prefix_at(s: &[u8], at: usize) -> Head
+fn prefix_at(s: &[u8], at: usize) -> Result<Head, Refusal>
     requires { KindAt 1 s.now at }
     ensures { Headed s.now at result }
 {
     let from = at + 1;
-    let body = body_length(PREFIX);
-    if s.len() - from < body {
-        return Head::Refused(NO_RECORD);
+    let body = Kind::Prefix.body();
+    if s.len() - from < body || s[from] == NO_ACTION {
+        return Err(Refusal::NoRecord);
     }
-    if s[from] == NO_ACTION {
-        return Head::Refused(NO_RECORD);
-    }
-    Head::Node {
-        kind: PREFIX,
-        children: child_count(PREFIX),
+    Ok(Head {
+        kind: Kind::Prefix,
+        children: Kind::Prefix.children(),
         next: from + body,
-    }
+    })
 }
 
 // The node at `at`, where a byte says that it is a restriction.
-fn restriction_at(s: &[u8], at: usize) -> Head
+fn restriction_at(s: &[u8], at: usize) -> Result<Head, Refusal>
     requires { KindAt 4 s.now at }
     ensures { Headed s.now at result }
 {
     let from = at + 1;
-    let body = body_length(RESTRICTION);
-    if s.len() - from < body {
-        return Head::Refused(NO_RECORD);
+    let body = Kind::Restriction.body();
+    if s.len() - from < body || s[from] == 0 || LAST_NAME < s[from] {
+        return Err(Refusal::NoRecord);
     }
-    if s[from] == 0 {
-        return Head::Refused(NO_RECORD);
-    }
-    if LAST_NAME < s[from] {
-        return Head::Refused(NO_RECORD);
-    }
-    Head::Node {
-        kind: RESTRICTION,
-        children: child_count(RESTRICTION),
+    Ok(Head {
+        kind: Kind::Restriction,
+        children: Kind::Restriction.children(),
         next: from + body,
-    }
+    })
 }
 
-// The node at `at`, without its children. The caller has seen that a byte stands there. Each kind with a body has a branch of its own and
-// asks the tables for a kind that is known, so that the place of the next node waits for no table. A choice and a parallel share one: with
-// a branch for each the tests become one jump through a table, and where the kinds come in no order that jump is guessed worse.
-pub fn node_at(s: &[u8], at: usize) -> Head
+// The node at `at`, without its children. The caller has seen that a byte stands there. Each kind with a body has a branch of its own, so
+// that the place of the next node waits for no table. The others share one: with a branch for each the tests become one jump through a
+// table, and where the kinds come in no order that jump is guessed worse.
+pub fn node_at(s: &[u8], at: usize) -> Result<Head, Refusal>
     requires { at < length s.now }
     ensures { Headed s.now at result }
 {
-    let kind = wide_byte(s[at]);
-    if kind == PREFIX {
+    let byte = s[at];
+    if byte == PREFIX {
         return prefix_at(s, at);
     }
-    if kind == RESTRICTION {
+    if byte == RESTRICTION {
         return restriction_at(s, at);
     }
-    if RESTRICTION < kind {
-        return Head::Refused(NO_RECORD);
-    }
-    if kind == NIL {
-        return Head::Node {
-            kind: NIL,
-            children: child_count(NIL),
-            next: at + 1 + body_length(NIL),
-        };
-    }
-    Head::Node {
-        kind: kind,
-        children: child_count(PARALLEL),
-        next: at + 1 + body_length(PARALLEL),
-    }
+    let kind = Kind::try_from(byte)?;
+    Ok(Head {
+        kind,
+        children: kind.children(),
+        next: at + 1,
+    })
 }
 
 // The node that is due at `at`, where at most `deep` levels and `left` nodes may come: bytes ended, then the limits, then the node itself.
-pub fn node_due(s: &[u8], at: usize, deep: usize, left: usize) -> Head
+pub fn node_due(s: &[u8], at: usize, deep: usize, left: usize) -> Result<Head, Refusal>
     ensures { Due s.now at deep left result }
 {
     if s.len() <= at {
-        return Head::Refused(NO_RECORD);
+        return Err(Refusal::NoRecord);
     }
-    if deep == 0 {
-        return Head::Refused(OVER_LIMIT);
-    }
-    if left == 0 {
-        return Head::Refused(OVER_LIMIT);
+    if deep == 0 || left == 0 {
+        return Err(Refusal::OverLimit);
     }
     node_at(s, at)
 }
 
 // Passes the node that is due, if it is good. `due` is a stack: how many levels each of the `many` terms that are due may have, the next
 // term's last. The node's children take its place there, with a level less. A helper for loops that read a record.
-pub fn pass_node(s: &[u8], at: usize, left: usize, many: usize, due: &mut [usize; DUE]) -> Head
+pub fn pass_node(
+    s: &[u8],
+    at: usize,
+    left: usize,
+    many: usize,
+    due: &mut [usize; DUE],
+) -> Result<Head, Refusal>
     requires { (0 < many) × Remains s.now due.old many left at }
     ensures { Passes s.now at left many result due.new }
 {
     let top = many - 1;
     let levels = due[top];
-    let head = node_due(s, at, levels, left);
-    match head {
-        Head::Refused(c) => Head::Refused(c),
-        Head::Node {
-            kind,
-            children,
-            next,
-        } => {
-            let below = levels - 1;
-            due[top] = below;
-            due[many] = below;
-            Head::Node {
-                kind: kind,
-                children: children,
-                next: next,
-            }
-        }
-    }
+    let head = node_due(s, at, levels, left)?;
+    let below = levels - 1;
+    due[top] = below;
+    due[many] = below;
+    Ok(head)
 }
 
 // The number of nodes of the record that the bytes are, or the refusal.
-pub fn read(bytes: &[u8]) -> Number
+pub fn read(bytes: &[u8]) -> Result<usize, Refusal>
     ensures { ReadRecord bytes.now (refusal result) (value result) }
 {
     let mut due = [DEPTH; DUE];
     let mut many: usize = 1;
     let mut left = NODES;
     let mut at: usize = 0;
+    // The terms that are due grow and shrink, and nodes differ in length: there is no range to go over.
     while 0 < many {
-        match pass_node(bytes, at, left, many, &mut due) {
-            Head::Refused(c) => {
-                return Number::Refused(c);
-            }
-            Head::Node {
-                kind: _,
-                children,
-                next,
-            } => {
-                many = many - 1 + children;
-                left -= 1;
-                at = next;
-            }
-        }
+        let head = pass_node(bytes, at, left, many, &mut due)?;
+        many = many - 1 + head.children;
+        left -= 1;
+        at = head.next;
     }
     if at < bytes.len() {
-        return Number::Refused(NO_RECORD);
+        return Err(Refusal::NoRecord);
     }
-    Number::Is(NODES - left)
+    Ok(NODES - left)
 }

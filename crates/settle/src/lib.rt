@@ -1,154 +1,137 @@
 // The keys that were noted, settled one by one at their ranks: how often each stands, and whether its lasts are ready.
 #![tactic(auto)]
 
-ghost use Rattle.std.specs.Prelude.{◌≡◌, List, [], ◌∷◌, ◌++◌, ℕ, ◌≤◌, ◌<◌, length, get_or, take};
+ghost use Rattle.std.specs.Prelude.{◌≡◌, true, List, [], ◌∷◌, ◌++◌, ℕ, ◌≤◌, ◌<◌};
 ghost use Rattle.format.specs.Limits.{node_limit};
 ghost use Rattle.shared.specs.Tells.{Tells};
+ghost use Rattle.keyset.specs.Set.{member};
+ghost use Rattle.rank.specs.Rank.{rank};
 ghost use Rattle.keys.specs.Gather.{Holds};
-ghost use Rattle.rank.specs.Rank.{Ranked};
-ghost use Rattle.lasts.specs.Last.{Last};
-ghost use Rattle.noting.specs.Node.{rows};
-ghost use Rattle.settle.specs.Group.{Counted, Small, Standing, Settled, AllIn, Fit, bumped};
+ghost use Rattle.noting.specs.Node.{noted_keys, noted_lasts, SameLasts};
+ghost use Rattle.settle.specs.declared.State.TheVariants.{Half};
+ghost use Rattle.settle.specs.Group.{last_at, Counted, Small, Standing, Settled, AllIn, Fit, bumped, is_ready};
 
-use keyset::BYTES;
-use rank::rank;
+use lasts::Last;
+use noting::Notes;
+use rank::Ranking;
 use reader::NODES;
-use shared::{complementary, wide};
+use shared::complementary;
 
-// What is known of a key: it stands once, or twice, with no last yet; it cannot be undone; it stands twice and its first last is at the
-// row in its slot; it can be undone, and stands in its slot.
-pub const ONCE: u8 = 1;
+// What is known of a key. It was not counted yet; it stands once, or twice, with no last yet; it cannot be undone; it stands twice, and its
+// first last is in the row that its slot says; it can be undone, and stands in its slot.
+#[derive(Clone, Copy, PartialEq, Eq)]
+pub enum State {
+    Unseen,
+    Once,
+    Twice,
+    Never,
+    Half,
+    Ready,
+}
 
-pub const TWICE: u8 = 2;
-
-pub const NEVER: u8 = 3;
-
-pub const HALF: u8 = 4;
-
-pub const READY: u8 = 5;
+impl State {
+    pub fn is_ready(self) -> bool
+        ensures { result ≡ is_ready self }
+    {
+        self == State::Ready
+    }
+}
 
 // A state with its slot.
 #[derive(Clone, Copy)]
 pub struct Met {
-    pub state: u8,
+    pub state: State,
     pub slot: u16,
 }
 
 // One more, up to three.
-fn bump(state: u8) -> u8
+fn bump(state: State) -> State
     ensures { result ≡ bumped state }
 {
-    if state < NEVER {
-        return state + 1;
-    }
-    state
-}
-
-// Counts each of the first n keys at its rank, up to three.
-pub fn tally(
-    all: &[u16; NODES],
-    n: usize,
-    marks: &[u8; BYTES],
-    base: &[u16; BYTES],
-    state: &mut [u8; NODES],
-)
-    requires all_len { (length all.now ≡ node_limit) × (n ≤ node_limit) × Small (take n all.now) × Holds marks.now (take n all.now) × Ranked marks.now base.now }
-    requires state_len { (length state.old ≡ node_limit) × Counted marks.now [] state.old }
-    ensures { (length state.new ≡ node_limit) × Counted marks.now (take n all.now) state.new }
-{
-    let mut i: usize = 0;
-    while i < n {
-        let r = rank(marks, base, all[i]);
-        state[r] = bump(state[r]);
-        i += 1;
+    match state {
+        State::Unseen => State::Once,
+        State::Once => State::Twice,
+        _ => State::Never,
     }
 }
 
-// Whether the lasts at the rows j and i can be the two halves of a step: one scope, complementary actions.
-fn fit_together(action: &[u8; NODES], scope: &[u16; NODES], j: usize, i: usize) -> bool
-    requires { (length action.now ≡ node_limit) × (length scope.now ≡ node_limit) × (j < node_limit) × (i < node_limit) }
-    ensures { Tells result (Fit action.now scope.now j i) }
+// The rank of a key of the set, where no more than NODES keys are in it.
+fn place(ranking: &Ranking, key: u16) -> usize
+    requires { (rank ranking.now.set.now.bytes 65536 ≤ node_limit) × (member ranking.now.set.now.bytes key ≡ true) }
+    ensures { (result ≡ rank ranking.now.set.now.bytes key) × (result < node_limit) }
 {
-    if scope[j] == scope[i] {
-        return complementary(action[j], action[i]);
-    }
-    false
+    ranking.rank(key)
 }
 
-// The state and slot of a key after its last at row i.
-fn meet(
-    key: &[u16; NODES],
-    action: &[u8; NODES],
-    scope: &[u16; NODES],
-    i: usize,
-    state: u8,
-    slot: u16,
-) -> Met
-    requires key_len { (length key.now ≡ node_limit) × (length action.now ≡ node_limit) × (length scope.now ≡ node_limit) }
-    requires i_lt_node_limit { (i < node_limit) × (state ≡ 4 → slot < node_limit) }
-    ensures { (c : ℕ) (x : List Last) → Standing (rows key.entry.now action.now scope.now) (get_or key.entry.now i 0) c x state slot → Standing (rows key.entry.now action.now scope.now) (get_or key.entry.now i 0) c (x ++ (record { key = get_or key.entry.now i 0; action = get_or action.now i 0; scope = get_or scope.now i 0 } ∷ [])) result.state result.slot }
+// Counts each key at its rank, up to three.
+fn tally(keys: &[u16], ranking: &Ranking, states: &mut [State; NODES])
+    requires counted { (rank ranking.now.set.now.bytes 65536 ≤ node_limit) × Small keys.now × Holds ranking.now.set.now.bytes keys.now }
+    requires fresh { Counted ranking.now.set.now.bytes [] states.old }
+    ensures { Counted ranking.now.set.now.bytes keys.now states.new }
 {
-    if state == ONCE {
-        if scope[i] == 0 {
-            return Met {
-                state: READY,
-                slot: key[i],
-            };
-        }
-        return Met {
-            state: NEVER,
-            slot: 0,
-        };
+    for key in keys {
+        let r = place(ranking, *key);
+        states[r] = bump(states[r]);
     }
-    if state == TWICE {
-        return Met {
-            state: HALF,
-            slot: i as u16,
-        };
-    }
-    if state == HALF {
-        if fit_together(action, scope, wide(slot), i) {
-            return Met {
-                state: READY,
-                slot: key[i],
-            };
-        }
-        return Met {
-            state: NEVER,
-            slot: 0,
-        };
-    }
-    Met {
-        state: NEVER,
+}
+
+// Whether two lasts can be the two halves of a step: one scope, complementary actions.
+fn fit_together(e: Last, f: Last) -> bool
+    ensures { Tells result (Fit e f) }
+{
+    e.scope == f.scope && complementary(e.action, f.action)
+}
+
+// The state and slot of a key after its last in row i.
+fn meet(lasts: &[Last; NODES], i: usize, met: Met) -> Met
+    requires { (i < node_limit) × (met.state ≡ Half → met.slot < node_limit) }
+    ensures { (c : ℕ) (x : List Last) → Standing lasts.now (last_at lasts.now i).key c x met.state met.slot → Standing lasts.now (last_at lasts.now i).key c (x ++ (last_at lasts.now i ∷ [])) result.state result.slot }
+{
+    let last = lasts[i];
+    let ready = Met {
+        state: State::Ready,
+        slot: last.key,
+    };
+    let half = Met {
+        state: State::Half,
+        slot: i as u16,
+    };
+    let never = Met {
+        state: State::Never,
         slot: 0,
+    };
+    match met.state {
+        State::Once => { if last.scope == 0 { ready } else { never } }
+        State::Twice => half,
+        State::Half => {
+            if fit_together(lasts[usize::from(met.slot)], last) {
+                ready
+            } else {
+                never
+            }
+        }
+        _ => never,
     }
 }
 
-// Counts the first m keys, then settles the first n rows of lasts, one after the other, at the ranks of their keys. The array of the keys
-// is the array of the slots afterwards.
-pub fn settle(
-    all: &mut [u16; NODES],
-    m: usize,
-    key: &[u16; NODES],
-    action: &[u8; NODES],
-    scope: &[u16; NODES],
-    n: usize,
-    marks: &[u8; BYTES],
-    base: &[u16; BYTES],
-    state: &mut [u8; NODES],
-)
-    requires all_len { (length all.old ≡ node_limit) × (m ≤ node_limit) × Small (take m all.old) × Holds marks.now (take m all.old) × Ranked marks.now base.now }
-    requires key_len { (length key.now ≡ node_limit) × (length action.now ≡ node_limit) × (length scope.now ≡ node_limit) × (n ≤ node_limit) × AllIn marks.now (take n (rows key.now action.now scope.now)) }
-    requires state_len { (length state.old ≡ node_limit) × Counted marks.now [] state.old }
-    ensures { (length state.new ≡ node_limit) × (length all.new ≡ node_limit) × Settled marks.now (take m all.old) (rows key.now action.now scope.now) (take n (rows key.now action.now scope.now)) state.new all.new }
+// Counts the keys, then settles the lasts, one after the other, at the ranks of their keys. The row of the keys is that of the slots
+// afterwards: one row less. All else in the notes stays.
+pub fn settle(notes: &mut Notes, ranking: &Ranking, states: &mut [State; NODES])
+    requires keys { (notes.old.key_count ≤ node_limit) × Small (noted_keys notes.old) × Holds ranking.now.set.now.bytes (noted_keys notes.old) }
+    requires lasts { (notes.old.last_count ≤ node_limit) × AllIn ranking.now.set.now.bytes (noted_lasts notes.old) }
+    requires fresh { Counted ranking.now.set.now.bytes [] states.old }
+    ensures settled { Settled ranking.now.set.now.bytes (noted_keys notes.old) notes.old.lasts (noted_lasts notes.old) states.new notes.new.keys }
+    ensures stays { SameLasts notes.old notes.new × (notes.new.key_count ≡ notes.old.key_count) × (notes.new.scopes ≡ notes.old.scopes) }
 {
-    tally(all, m, marks, base, state);
-    let mut i: usize = 0;
-    while i < n {
-        let r = rank(marks, base, key[i]);
-        let met = meet(key, action, scope, i, state[r], all[r]);
-        state[r] = met.state;
-        all[r] = met.slot;
-        i += 1;
+    tally(&notes.keys[..notes.key_count], ranking, states);
+    for i in 0..notes.last_count {
+        let r = place(ranking, notes.lasts[i].key);
+        let met = Met {
+            state: states[r],
+            slot: notes.keys[r],
+        };
+        let met = meet(&notes.lasts, i, met);
+        states[r] = met.state;
+        notes.keys[r] = met.slot;
     }
 }

@@ -1,3 +1,3 @@
--- What a test tells (Tells), and the answer that is a number (Number).
+-- What a test tells (Tells), refusals and answers (Refusal).
 pub mod Tells
-pub mod Number
+pub mod Refusal

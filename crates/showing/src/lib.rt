@@ -1,87 +1,108 @@
 // The places of a part that show one of some labels, listed in rising order.
 #![tactic(auto)]
 
-ghost use Rattle.std.specs.Prelude.{◌≡◌, ◌+◌, ◌≤◌, ◌<◌, length};
+ghost use Rattle.std.specs.Prelude.{◌≡◌, ◌+◌, ◌≤◌, ◌<◌, length, take};
 ghost use Rattle.format.specs.Limits.{node_limit};
 ghost use Rattle.labelset.specs.Set.{Shows};
-ghost use Rattle.offers.specs.Forms.{SomePart};
-ghost use Rattle.index.specs.Whole.{Room};
-ghost use Rattle.showing.specs.Listed.{Listed, Lists};
+ghost use Rattle.index.specs.Whole.{SomePartAt};
+ghost use Rattle.showing.specs.Listed.{Pushed, Listed, Lists};
 
-use index::{HIDDEN, NEXT, OWN, SECOND, second_part};
-use labelset::{Labels, has, without_name};
+use index::{Form, Rows};
+use labelset::Labels;
 use reader::NODES;
-use shared::either;
 use wanted::shows_none;
 
-// Lists the prefix at node n, whose action is a, if its action is wanted.
-fn list_own(n: usize, a: u8, want: Labels, row: &mut [u16; NODES], count: usize) -> usize
-    requires { (n < node_limit) × (length row.old ≡ node_limit) × (count ≤ n) }
-    ensures { Listed (λ i. (i ≡ n) × Shows want a) row.old count row.new result × (result ≤ n + 1) × (length row.new ≡ node_limit) }
-{
-    if has(want, a) {
-        row[count] = n as u16;
-        return count + 1;
-    }
-    count
+// Places in a row: the first `count` of it.
+#[derive(Drop)]
+pub struct Places {
+    pub row: [u16; NODES],
+    pub count: usize,
 }
 
-// Lists the places of the part at node n that show one of the labels of the set (wa, wb, wc, wd), behind the `count` places that the row
-// has: how many it has then. A part of which it is noted that it shows none of them is not entered, and only where both parts of a node
-// may show some does the search call itself: the way to a single place is a loop.
-pub fn list(
-    n: usize,
-    wa: u64,
-    wb: u64,
-    wc: u64,
-    wd: u64,
-    forms: &[u8; NODES],
-    args: &[u8; NODES],
-    ends: &[u16; NODES],
-    sets: &[u64],
-    row: &mut [u16; NODES],
-    count: usize,
-) -> usize
-    requires some_part { SomePart forms.now args.now ends.now n }
-    requires room { Room forms.now args.now ends.now × (length row.old ≡ node_limit) × (count ≤ n) }
-    ensures { Lists forms.now args.now ends.now sets.now n (Shows (record { a = wa; b = wb; c = wc; d = wd })) row.old count row.new result }
+impl Places {
+    // No place.
+    pub fn new() -> Places
+        ensures { result.count ≡ 0 }
+    {
+        Places {
+            row: [0; NODES],
+            count: 0,
+        }
+    }
+
+    // The nodes of the places.
+    pub fn nodes(&self) -> &[u16]
+        requires { self.now.count ≤ node_limit }
+        ensures { (result.now ≡ take self.now.count self.now.row) × (length result.now ≡ self.now.count) }
+    {
+        &self.row[..self.count]
+    }
+
+    // Puts node n behind the places that are there.
+    pub fn push(&mut self, n: usize)
+        requires { (n < node_limit) × (self.old.count < node_limit) }
+        ensures { Pushed self.old n self.new }
+    {
+        self.row[self.count] = n as u16;
+        self.count += 1;
+    }
+}
+
+// Lists the prefix at node n, whose action is a, if its action is wanted.
+fn list_own(n: usize, a: u8, want: Labels, places: &mut Places)
+    requires { (n < node_limit) × (places.old.count ≤ n) }
+    ensures { Listed (λ i. (i ≡ n) × Shows want a) places.old places.new × (places.new.count ≤ n + 1) }
 {
-    let mut want = Labels {
-        a: wa,
-        b: wb,
-        c: wc,
-        d: wd,
-    };
+    if want.has(a) {
+        places.push(n);
+    }
+}
+
+// Lists the places of the part at node n that show one of the labels, behind those that are listed. A part of which it is noted that it shows
+// none of them is not entered, and only where both parts of a node may show some does the search call itself: the way to a single place is a
+// loop.
+pub fn list(n: usize, want: Labels, rows: &Rows, sets: &[Labels], places: &mut Places)
+    requires some_part { SomePartAt rows.now n }
+    requires few { places.old.count ≤ n }
+    ensures { Lists rows.now sets.now n (Shows want) places.old places.new }
+{
+    let mut seek = want;
     let mut at = n;
-    let mut many = count;
-    while OWN < forms[at] {
-        let form = forms[at];
+    // Nodes are passed along links: there is no range to go over.
+    'down: loop {
+        // Tests of equality stand for a match, which would become a jump through a table that is guessed badly.
+        let form = rows.form_at(at);
+        if form == Form::Nothing {
+            return;
+        }
+        if form == Form::Own {
+            list_own(at, rows.args[at], seek, places);
+            return;
+        }
         let next = at + 1;
-        if form == NEXT {
+        if form == Form::Next {
             at = next;
-            continue;
+            continue 'down;
         }
-        if form == HIDDEN {
-            want = without_name(want, args[at]);
+        if form == Form::Hidden {
+            seek = seek.without_name(rows.args[at]);
             at = next;
-            continue;
+            continue 'down;
         }
-        let second = second_part(at, ends);
-        if either(form == SECOND, shows_none(next, want, sets)) {
+        let second = rows.second_part(at);
+        if form == Form::Second {
             at = second;
-            continue;
+            continue 'down;
         }
-        if shows_none(second, want, sets) {
+        if shows_none(next, seek, sets) {
+            at = second;
+            continue 'down;
+        }
+        if shows_none(second, seek, sets) {
             at = next;
-            continue;
+            continue 'down;
         }
-        many = list(
-            next, want.a, want.b, want.c, want.d, forms, args, ends, sets, row, many,
-        );
+        list(next, seek, rows, sets, places);
         at = second;
     }
-    if forms[at] == OWN {
-        return list_own(at, args[at], want, row, many);
-    }
-    many
 }

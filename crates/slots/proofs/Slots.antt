@@ -56,13 +56,6 @@ module _ (m ks : List ℕ) (H : Holds m ks) (small : (i : ℕ) → get_or ks i 0
   pub keys_in : KeysIn m ks
   keys_in i h z = key_member (get_or ks i 0) (get_or_in ks i h)
 
-  pub ups_in : (us : List ℕ) → Numberable ks us → KeysIn m us
-  ups_in us N i h z = pick (N.ups i h)
-    where
-      pick : (get_or us i 0 ≡ 0) ⊎ In (get_or us i 0) ks → member m (get_or us i 0) ≡ true
-      pick (inl e) = absurd (z e)
-      pick (inr j) = key_member (get_or us i 0) j
-
   slot_below : (k : ℕ) → In k ks → slot m k < rank m 65536 + 1
   unfolding slot
   slot_below zero i = omega (arith, key_positive zero i)

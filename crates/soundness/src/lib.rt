@@ -1,33 +1,34 @@
 // Soundness of a record (01, Soundness): its verdict, 0 to 7.
 #![tactic(auto)]
 
-ghost use Rattle.shared.specs.Number.{refusal, value, Caused};
+ghost use Rattle.std.specs.Prelude.{◌≡◌};
+ghost use Rattle.pairs.specs.Condition.{verdict};
+ghost use Rattle.shared.specs.Refusal.{refusal, value};
 ghost use Rattle.operations.specs.Ask.{Soundness};
 
-use folds::{Whole, fold_all};
+use folds::fold_all;
 use judge::judge;
-use shared::Number;
+use pairs::Condition;
+use shared::Refusal;
 
-// Verdicts: below a prefix with key 0 stands a key; both sides of a choice hold keys.
-const NOT_WAITING: usize = 1;
-
-const NOT_CHOSEN: usize = 2;
-
-// The verdict of a record: the lowest of the seven conditions that fails, 0 if none does.
-pub fn verdict(record: &[u8]) -> Number
-    ensures soundness { Soundness «record».now (refusal result) (value result) }
-    ensures caused { Caused result }
+// The number of the condition that fails, 0 if none does.
+fn number(fails: Option<Condition>) -> usize
+    ensures { result ≡ verdict fails }
 {
-    match fold_all(record) {
-        Whole::Refused(c) => Number::Refused(c),
-        Whole::Marks(marks) => {
-            if !marks.waits {
-                return Number::Is(NOT_WAITING);
-            }
-            if !marks.chosen {
-                return Number::Is(NOT_CHOSEN);
-            }
-            Number::Is(shared::wide_byte(judge(record)))
-        }
-    }
+    fails.map_or(0, |c| usize::from(u8::from(c)))
+}
+
+// The verdict of a record: the number of the lowest of the seven conditions that fails, 0 if none does.
+pub fn verdict(record: &[u8]) -> Result<usize, Refusal>
+    ensures { Soundness «record».now (refusal result) (value result) }
+{
+    let marks = fold_all(record)?;
+    let fails = if !marks.waits {
+        Some(Condition::Waiting)
+    } else if !marks.chosen {
+        Some(Condition::Choosing)
+    } else {
+        judge(record)
+    };
+    Ok(number(fails))
 }

@@ -2,8 +2,8 @@
 use mathlib.Core.Path.{◌≡◌, refl, sym, ap, subst, ◌∙◌}
 use mathlib.Core.Logic.{inl, inr, ◌≢◌}
 use mathlib.Core.List.{List, []}
-use mathlib.Core.Bool.{Bool, true, false, true≢false}
-use Prim.Native.Nat.{ℕ, zero, suc, ◌+◌, ◌-◌, ◌/◌, ◌%◌, ◌≤◌, ◌<◌}
+use mathlib.Core.Bool.{false, true≢false}
+use Prim.Native.Nat.{ℕ, zero, suc, ◌+◌, ◌-◌, ◌≤◌, ◌<◌}
 use native.Mathlib.Decide.{ℕ_discrete, dec_lt}
 use native.Mathlib.Numerals.{add-one}
 use native.Mathlib.Omega.{arith}
@@ -11,51 +11,22 @@ use lib.ListN.{length, get_or, set, length-set}
 use lib.Seq.{get_or-set_same, get_or-set_other}
 use Rattle.ccsk.specs.Term.{Key}
 use Rattle.keyset.specs.Set.{member}
-use Rattle.keyset.proofs.Bits.{empty_bit}
-use Rattle.rank.specs.Rank.{rank, Ranked}
+use Rattle.keyset.proofs.Small.{member_small}
+use Rattle.rank.specs.Rank.{rank}
 use Rattle.rank.proofs.Ranks.{rank_once, rank_less}
 use Rattle.threads.specs.Rows.{owing, Under, Last}
-use Rattle.threads.specs.Threads.{Held, Sortable, Threadable, Threads, passed, threaded, Ready, Threaded}
-use Rattle.threads.proofs.Counting.{stands_inside, owing_none, owing_yes, owing_no, owing_skip}
-
--- behind the end of a set there is no key
-no_key : (marks : List ℕ) (k : Key) → get_or marks (k / 8) 0 ≡ 0 → member marks k ≡ false
-unfolding member
-no_key marks k e = rw (e, empty_bit (k % 8)) refl
-
--- a key of the set is a 16-bit number
-pub held_small : (marks : List ℕ) → length marks ≡ 8192 → (k : Key) → Held marks k → k < 65536
-held_small marks e k h = pick (dec_lt 0 (get_or marks (k / 8) 0))
-  where
-    pick : Dec (0 < get_or marks (k / 8) 0) → k < 65536
-    pick (yes z) = omega (arith, stands_inside marks (k / 8) z, e)
-    pick (no z) = absurd (true≢false (sym h ∙ no_key marks k (omega arith)))
+use Rattle.threads.specs.Threads.{Held, Sortable, Threads, passed, threaded, linked_on, Ready, Threaded}
+use Rattle.filing.specs.declared.Cabinet.{Cabinet}
+use Rattle.threads.proofs.Counting.{owing_none, owing_yes, owing_no, owing_skip}
 
 -- its rank is one of the ranks
-rank_low : (marks : List ℕ) → length marks ≡ 8192 → (k : Key) → Held marks k → rank marks k < rank marks 65536
-rank_low marks e k h = rank_less marks k 65536 h (held_small marks e k h)
+pub rank_low : (marks : List ℕ) → length marks ≡ 8192 → (k : Key) → Held marks k → rank marks k < rank marks 65536
+rank_low marks e k h = rank_less marks k 65536 h (member_small marks e k h)
 
--- what threading one row asks for and comes to; b tells whether its upper key is in the set
-module _ (marks base us ls os hs cs : List ℕ) (i : ℕ) (T : Threadable marks base us ls os hs cs i) (b : Bool) (e : b ≡ member marks (get_or us i 0)) where
-  pub row_passed : b ≡ false → Threads marks us ls os hs cs i us os hs cs
-  row_passed f = passed (sym e ∙ f)
-
-  module _ (f : b ≡ true) where
-    pub upper_held : Held marks (get_or us i 0)
-    upper_held = sym e ∙ f
-
-    pub lower_held : Held marks (get_or ls i 0)
-    lower_held = T.inside upper_held
-
-    module _ (u l : ℕ) (p : u ≡ rank marks (get_or us i 0)) (q : l ≡ rank marks (get_or ls i 0)) where
-      pub upper_low : u < rank marks 65536
-      upper_low = rw p (rank_low marks T.whole (get_or us i 0) upper_held)
-
-      pub lower_low : l < rank marks 65536
-      lower_low = rw q (rank_low marks T.whole (get_or ls i 0) lower_held)
-
-      pub row_done : Threads marks us ls os hs cs i (set us i u) (set os i (get_or hs l 0)) (set hs l i) (set cs u (get_or cs u 0 + 1))
-      row_done = threaded u l upper_held p q
+-- a row threaded leaves the drawers' latest links
+pub row_latest : (marks : List ℕ) (x : Cabinet) (hs cs : List ℕ) (i : ℕ) (x' : Cabinet) (hs' cs' : List ℕ) → Threads marks x hs cs i x' hs' cs' → x'.latest ≡ x.latest
+row_latest marks x hs cs i x' hs' cs' (passed f) = refl
+row_latest marks x hs cs i x' hs' cs' (threaded u l h e d) = refl
 
 module _ (marks : List ℕ) (n links : ℕ) (us ls : List ℕ) (S : Sortable marks n links us ls) where
   not_both : (k : Key) → Held marks k → member marks k ≡ false → ⊥
@@ -72,42 +43,28 @@ module _ (marks : List ℕ) (n links : ℕ) (us ls : List ℕ) (S : Sortable mar
   rank_inside : (k : Key) → Held marks k → rank marks k < rank marks 65536
   rank_inside k h = rank_low marks S.whole k h
 
-  pub threaded_none : (base os hs cs : List ℕ) → Ready marks base us os hs cs → Threaded marks us ls 1 us os hs cs
-  threaded_none base os hs cs R = record {
+  pub threaded_none : (x : Cabinet) (hs cs : List ℕ) → x.upper ≡ us → x.lower ≡ ls → Ready marks x hs cs → Threaded marks us ls 1 x hs cs
+  threaded_none x hs cs p q R = record {
     head = λ k h. record { there = inl (R.no_head (rank marks k)); before = omega (arith, R.no_head (rank marks k)); none = λ i a b. absurd (omega (arith, R.no_head (rank marks k))) };
     older = λ k i h g e f. absurd (first i g f);
     named = λ i g f. absurd (first i g f);
-    rest = λ i g. refl;
+    rest = λ i g. ap (λ (l : List ℕ). get_or l i 0) p;
+    lower = q;
     counted = λ k h. R.no_count (rank marks k) ∙ sym (owing_no us ls k [] 0 (λ e. absurd (omega (arith, positive k h, e, S.root))) ∙ owing_none us ls k []);
     small = λ r. omega (arith, R.no_count r);
-    long_ups = refl;
-    long_olds = R.older;
+    long_ups = ap length p;
+    long_olds = R.older ∙ ap length p;
   }
     where
       first : (i : ℕ) → i < 1 → ¬ Held marks (get_or us i 0)
       first i g f = let e : i ≡ 0 = omega arith in no_row 0 S.root (subst (λ (x : ℕ). Held marks (get_or us x 0)) e f)
 
-  module _ (i : ℕ) (ups os hs cs : List ℕ) (T : Threaded marks us ls i ups os hs cs) where
-    here : get_or ups i 0 ≡ get_or us i 0
+  module _ (i : ℕ) (x : Cabinet) (hs cs : List ℕ) (T : Threaded marks us ls i x hs cs) where
+    here : get_or x.upper i 0 ≡ get_or us i 0
     here = T.rest i (omega arith)
 
     inside : Held marks (get_or us i 0) → Held marks (get_or ls i 0)
     inside h = S.closed (get_or us i 0) (get_or ls i 0) h (i, positive (get_or us i 0) h, refl, refl)
-
-    pub threadable : (base : List ℕ) → Ranked marks base → i ≤ links → rank marks 65536 ≤ length hs → rank marks 65536 ≤ length cs → Threadable marks base ups ls os hs cs i
-    threadable base B g h c = record {
-      whole = S.whole;
-      ranked = B;
-      upper = omega (arith, T.long_ups, S.upper, S.last);
-      lower = omega (arith, S.lower, S.last);
-      older = omega (arith, T.long_olds, S.upper, S.last);
-      heads = h;
-      counters = c;
-      few = omega (arith, S.count, S.few);
-      row = omega (arith, S.last);
-      inside = λ z. inside (subst (Held marks) here z);
-      room = λ r. omega (arith, T.small r, S.last);
-    }
 
     -- a row from a key that is not in the set changes nothing
     module _ (f : member marks (get_or us i 0) ≡ false) where
@@ -125,12 +82,13 @@ module _ (marks : List ℕ) (n links : ℕ) (us ls : List ℕ) (S : Sortable mar
           pick (yes e) = absurd (not_both (get_or us i 0) (subst (λ (x : ℕ). Held marks (get_or us x 0)) e h) f)
           pick (no e) = omega arith
 
-      pub passed_on : Threaded marks us ls (suc i) ups os hs cs
+      passed_on : Threaded marks us ls (suc i) x hs cs
       passed_on = record {
         head = λ k h. still k (get_or hs (rank marks k) 0) (T.head k h);
         older = λ k j h g e w. T.older k j h (old j g w) e w;
         named = λ j g w. T.named j (old j g w) w;
         rest = λ j g. T.rest j (omega arith);
+        lower = T.lower;
         counted = λ k h. T.counted k h ∙ sym (owing_no us ls k [] i (λ e. absurd (not_both (get_or us i 0) (subst (Held marks) e h) f)));
         small = λ r. omega (arith, T.small r);
         long_ups = T.long_ups;
@@ -162,20 +120,20 @@ module _ (marks : List ℕ) (n links : ℕ) (us ls : List ℕ) (S : Sortable mar
               none j p q (yes y) w = z (sym w.0 ∙ ap (λ (x : ℕ). get_or ls x 0) y)
               none j p q (no y) w = (T.head k g).none j p (omega arith) w
 
-      older_on : (k : Key) (j : ℕ) → Held marks k → j < suc i → get_or ls j 0 ≡ k → Held marks (get_or us j 0) → Last (Held marks) us ls k j (get_or (set os i (get_or hs l 0)) j 0)
+      older_on : (k : Key) (j : ℕ) → Held marks k → j < suc i → get_or ls j 0 ≡ k → Held marks (get_or us j 0) → Last (Held marks) us ls k j (get_or (set x.older i (get_or hs l 0)) j 0)
       older_on k j g p q w = pick (ℕ_discrete j i)
         where
-          pick : Dec (j ≡ i) → Last (Held marks) us ls k j (get_or (set os i (get_or hs l 0)) j 0)
-          pick (no z) = rw (get_or-set_other os i j (get_or hs l 0) 0 z) (T.older k j g (omega arith) q w)
+          pick : Dec (j ≡ i) → Last (Held marks) us ls k j (get_or (set x.older i (get_or hs l 0)) j 0)
+          pick (no z) = rw (get_or-set_other x.older i j (get_or hs l 0) 0 z) (T.older k j g (omega arith) q w)
           pick (yes z) = let y : rank marks k ≡ l = ap (rank marks) (sym q ∙ ap (λ (x : ℕ). get_or ls x 0) z) ∙ sym d in
-              rw (z, get_or-set_same os i (get_or hs l 0) 0 (omega (arith, T.long_olds)), ← y) (T.head k g)
+              rw (z, get_or-set_same x.older i (get_or hs l 0) 0 (omega (arith, T.long_olds)), ← y) (T.head k g)
 
-      named_on : (j : ℕ) → j < suc i → Held marks (get_or us j 0) → get_or (set ups i u) j 0 ≡ rank marks (get_or us j 0)
+      named_on : (j : ℕ) → j < suc i → Held marks (get_or us j 0) → get_or (set x.upper i u) j 0 ≡ rank marks (get_or us j 0)
       named_on j p w = pick (ℕ_discrete j i)
         where
-          pick : Dec (j ≡ i) → get_or (set ups i u) j 0 ≡ rank marks (get_or us j 0)
-          pick (yes z) = rw (z, get_or-set_same ups i u 0 (omega (arith, T.long_ups))) e
-          pick (no z) = get_or-set_other ups i j u 0 z ∙ T.named j (omega arith) w
+          pick : Dec (j ≡ i) → get_or (set x.upper i u) j 0 ≡ rank marks (get_or us j 0)
+          pick (yes z) = rw (z, get_or-set_same x.upper i u 0 (omega (arith, T.long_ups))) e
+          pick (no z) = get_or-set_other x.upper i j u 0 z ∙ T.named j (omega arith) w
 
       counted_on : (k : Key) → Held marks k → get_or (set cs u (get_or cs u 0 + 1)) (rank marks k) 0 ≡ owing us ls k [] (suc i)
       counted_on k g = pick (ℕ_discrete k (get_or us i 0))
@@ -192,33 +150,35 @@ module _ (marks : List ℕ) (n links : ℕ) (us ls : List ℕ) (S : Sortable mar
           pick (yes z) = rw (z, get_or-set_same cs u (get_or cs u 0 + 1) 0 (omega (arith, e, rank_inside (get_or us i 0) h))) (omega (arith, T.small u))
           pick (no z) = rw (get_or-set_other cs u r (get_or cs u 0 + 1) 0 z) (omega (arith, T.small r))
 
-      pub threaded_on : Threaded marks us ls (suc i) (set ups i u) (set os i (get_or hs l 0)) (set hs l i) (set cs u (get_or cs u 0 + 1))
+      threaded_on : Threaded marks us ls (suc i) (linked_on x i u (get_or hs l 0)) (set hs l i) (set cs u (get_or cs u 0 + 1))
       threaded_on = record {
         head = heads_on;
         older = older_on;
         named = named_on;
-        rest = λ j g. get_or-set_other ups i j u 0 (λ z. omega arith) ∙ T.rest j (omega arith);
+        rest = λ j g. get_or-set_other x.upper i j u 0 (λ z. omega arith) ∙ T.rest j (omega arith);
+        lower = T.lower;
         counted = counted_on;
         small = small_on;
-        long_ups = length-set ups i u ∙ T.long_ups;
-        long_olds = length-set os i (get_or hs l 0) ∙ T.long_olds;
+        long_ups = length-set x.upper i u ∙ T.long_ups;
+        long_olds = length-set x.older i (get_or hs l 0) ∙ T.long_olds;
       }
 
     -- one row more
-    on : i ≤ links → rank marks 65536 ≤ length hs → rank marks 65536 ≤ length cs → (ups' os' hs' cs' : List ℕ) → Threads marks ups ls os hs cs i ups' os' hs' cs' → Threaded marks us ls (suc i) ups' os' hs' cs'
-    on g b c ups' os' hs' cs' (passed f) = passed_on (ap (member marks) (sym here) ∙ f)
-    on g b c ups' os' hs' cs' (threaded u l h e d) = threaded_on u l (subst (Held marks) here h) (e ∙ ap (rank marks) here) d (omega (arith, S.upper, S.last)) b c
+    on : i ≤ links → rank marks 65536 ≤ length hs → rank marks 65536 ≤ length cs → (x' : Cabinet) (hs' cs' : List ℕ) → Threads marks x hs cs i x' hs' cs' → Threaded marks us ls (suc i) x' hs' cs'
+    on g b c x' hs' cs' (passed f) = passed_on (ap (member marks) (sym here) ∙ f)
+    on g b c x' hs' cs' (threaded u l h e d) = threaded_on u l (subst (Held marks) here h) (e ∙ ap (rank marks) here) (d ∙ ap (λ (z : List ℕ). rank marks (get_or z i 0)) T.lower) (omega (arith, S.upper, S.last)) b c
 
-    pub row_threaded : i ≤ links → rank marks 65536 ≤ length hs → rank marks 65536 ≤ length cs → (ups' os' hs' cs' : List ℕ) → Threads marks ups ls os hs cs i ups' os' hs' cs' → Threaded marks us ls (i + 1) ups' os' hs' cs'
-    row_threaded g b c ups' os' hs' cs' t = rw (add-one i) (on g b c ups' os' hs' cs' t)
+    pub row_threaded : i ≤ links → rank marks 65536 ≤ length hs → rank marks 65536 ≤ length cs → (x' : Cabinet) (hs' cs' : List ℕ) → Threads marks x hs cs i x' hs' cs' → Threaded marks us ls (i + 1) x' hs' cs'
+    row_threaded g b c x' hs' cs' t = rw (add-one i) (on g b c x' hs' cs' t)
 
   -- no row comes any more
-  pub all_threaded : (i : ℕ) (ups os hs cs : List ℕ) → Threaded marks us ls i ups os hs cs → links < i → i ≤ links + 1 → Threaded marks us ls (length us) ups os hs cs
-  all_threaded i ups os hs cs T g f = record {
+  pub all_threaded : (i : ℕ) (x : Cabinet) (hs cs : List ℕ) → Threaded marks us ls i x hs cs → links < i → i ≤ links + 1 → Threaded marks us ls (length us) x hs cs
+  all_threaded i x hs cs T g f = record {
     head = λ k h. let L = T.head k h in record { there = L.there; before = omega (arith, L.before, S.upper, S.last); none = λ j a b w. L.none j a (early j w.1) w };
     older = λ k j h p e w. T.older k j h (early j w) e w;
     named = λ j p w. T.named j (early j w) w;
     rest = λ j p. T.rest j (omega (arith, S.upper, S.last));
+    lower = T.lower;
     counted = λ k h. T.counted k h ∙ sym (more k h);
     small = λ r. omega (arith, T.small r, S.upper, S.last);
     long_ups = T.long_ups;

@@ -2,34 +2,36 @@
 // Helpers between crates, with what each asks of its caller.
 #![tactic(auto)]
 
-ghost use Rattle.std.specs.Prelude.{length};
+ghost use Rattle.std.specs.Prelude.{◌≡◌, ◌<◌, length};
 ghost use Rattle.rank.specs.Rank.{rank};
-ghost use Rattle.threads.specs.Threads.{Sortable, Threadable, Threads, Ready, Threaded};
+ghost use Rattle.threads.specs.Threads.{Held, Sortable, Threadable, Threads, Ready, Threaded};
 
-use keyset::BYTES;
+use filing::Cabinet;
+use rank::Ranking;
+
+// The number of a key of the set, which is below the number of keys.
+fn number(ranks: &Ranking, key: u16) -> usize
+    requires { (length ranks.now.set.now.bytes ≡ 8192) × Held ranks.now.set.now.bytes key }
+    ensures is { result ≡ rank ranks.now.set.now.bytes key }
+    ensures low { result < rank ranks.now.set.now.bytes 65536 }
+{
+    ranks.rank(key)
+}
 
 // Threads row i: counts it for its upper key, which becomes a number, and puts it in front of the rows that lead to its lower key.
-fn thread(
-    i: usize,
-    marks: &[u8; BYTES],
-    base: &[u16; BYTES],
-    upper: &mut [u16],
-    lower: &[u16],
-    older: &mut [u16],
-    heads: &mut [u16],
-    counters: &mut [u16],
-)
-    requires { Threadable marks.now base.now upper.old lower.now older.old heads.old counters.old i }
-    ensures { Threads marks.now upper.old lower.now older.old heads.old counters.old i upper.new older.new heads.new counters.new }
+// The two columns are no struct: later the counters change while the heads are lent.
+fn thread(i: usize, ranks: &Ranking, cabinet: &mut Cabinet, heads: &mut [u16], counters: &mut [u16])
+    requires { Threadable ranks.now.set.now.bytes cabinet.old heads.old counters.old i }
+    ensures { Threads ranks.now.set.now.bytes cabinet.old heads.old counters.old i cabinet.new heads.new counters.new }
 {
-    let up = upper[i];
-    if !keyset::has(marks, up) {
+    let up = cabinet.upper[i];
+    if !ranks.set.has(up) {
         return;
     }
-    let u = rank::rank(marks, base, up);
-    let l = rank::rank(marks, base, lower[i]);
-    upper[i] = u as u16;
-    older[i] = heads[l];
+    let u = number(ranks, up);
+    let l = number(ranks, cabinet.lower[i]);
+    cabinet.upper[i] = u as u16;
+    cabinet.older[i] = heads[l];
     heads[l] = i as u16;
     counters[u] += 1;
 }
@@ -37,21 +39,17 @@ fn thread(
 // Threads the rows from 1 on.
 pub fn thread_all(
     links: usize,
-    marks: &[u8; BYTES],
-    base: &[u16; BYTES],
-    upper: &mut [u16],
-    lower: &[u16],
-    older: &mut [u16],
+    ranks: &Ranking,
+    cabinet: &mut Cabinet,
     heads: &mut [u16],
     counters: &mut [u16],
 )
-    requires sortable { Sortable marks.now (rank marks.now 65536) links upper.old lower.now }
-    requires ready { Ready marks.now base.now upper.old older.old heads.old counters.old }
-    ensures { Threaded marks.now upper.old lower.now (length upper.old) upper.new older.new heads.new counters.new }
+    requires sortable { Sortable ranks.now.set.now.bytes (rank ranks.now.set.now.bytes 65536) links cabinet.old.upper cabinet.old.lower }
+    requires ready { Ready ranks.now.set.now.bytes cabinet.old heads.old counters.old }
+    ensures threaded { Threaded ranks.now.set.now.bytes cabinet.old.upper cabinet.old.lower (length cabinet.old.upper) cabinet.new heads.new counters.new }
+    ensures kept { (cabinet.new.lower ≡ cabinet.old.lower) × (cabinet.new.latest ≡ cabinet.old.latest) }
 {
-    let mut i: usize = 1;
-    while i <= links {
-        thread(i, marks, base, upper, lower, older, heads, counters);
-        i += 1;
+    for i in 1..links + 1 {
+        thread(i, ranks, cabinet, heads, counters);
     }
 }

@@ -1,5 +1,5 @@
 -- The whole record: what was noted are the keys and the lasts of its term, so the keys that are ready are those that can be undone.
-use mathlib.Core.Path.{◌≡◌, refl, ap, ◌∙◌}
+use mathlib.Core.Path.{◌≡◌, refl}
 use mathlib.Core.Logic.{inl, inr}
 use mathlib.Core.List.{List, [], ◌∷◌, ◌++◌}
 use mathlib.Core.Bool.{Bool, true, false}
@@ -7,7 +7,8 @@ use Prim.Native.Nat.{ℕ, zero, suc, ◌+◌, ◌<◌, ◌≤◌}
 use native.Mathlib.Omega.{arith}
 use borrow.Author.Tests.{ne_eqb}
 use lib.Dec.{eqb}
-use lib.ListN.{length, take, length-append}
+use lib.ListN.{length, length-append}
+use Rattle.std.specs.Prelude.{Ok}
 use Rattle.ccsk.specs.Numbers.{In, Lists}
 use Rattle.ccsk.specs.Term.{Term, Key, Node, nil, pre, cho, par, res, keys, done, labels, tick, size}
 use Rattle.ccsk.specs.Step.{Undoable}
@@ -19,17 +20,18 @@ use Rattle.format.specs.Encode.{InRange, Bytes}
 use Rattle.operations.specs.Ask.{UndoListing, UndoListing.unreadable as refused-row, UndoListing.done as listed-row}
 use Rattle.operations.proofs.Kept.{range_key}
 use Rattle.operations.proofs.Readable.{read_fits}
-use Rattle.reader.specs.Walk.{Walks}
+use Rattle.reader.specs.Walk.{Stops}
 use Rattle.reader.proofs.Whole.{refuses_stopped, refuses_trailing, reads_whole}
 use Rattle.moves.specs.Move.{holds}
 use Rattle.rank.specs.Rank.{one_more}
-use Rattle.lasts.specs.Last.{Last, Scopes, enclosed, open_scopes, last_over_prefix, last_over_choice, lasts, all_lasts, only, Ready}
+use Rattle.lasts.specs.declared.Last.{Last}
+use Rattle.lasts.specs.Last.{Scopes, enclosed, open_scopes, last_over_prefix, last_over_choice, lasts, all_lasts, only, Ready}
 use Rattle.lasts.proofs.Ready.{undoable_iff_ready}
-use Rattle.gather.specs.declared.Outcome.{Outcome}
-use Rattle.gather.specs.declared.Outcome.TheVariants as found
-use Rattle.gather.specs.Gather.{Lent, Noted, Gathers}
+use Rattle.noting.specs.declared.Notes.{Notes}
+use Rattle.noting.specs.Node.{noted_keys, noted_lasts, NoNotes}
+use Rattle.gather.specs.declared.Part.{Part}
+use Rattle.gather.specs.Gather.{Gathers}
 use Rattle.gather.proofs.Notes.{lasts_few}
-use Rattle.gather.proofs.Gathers.{gathers_refused, gathers_part}
 use Rattle.settle.specs.Group.{Small, times}
 use Rattle.undos.specs.Rows.{Positive, AllAmong, Lines, Lines.lines}
 
@@ -97,50 +99,43 @@ lines_undoable : (s : List ℕ) (t : Term) (row row' : List ℕ) (r n : ℕ) →
 lines_undoable s t row row' r n p i (lines {l = l} f g) = listed-row p (undoables_listed t l i f) g
 
 -- what the pass over the whole record leaves
-module _ (s : List ℕ) (bytes : Bytes s) (b b' : Lent) (W : Type 0) (r : Outcome) (w : Gathers s 0 depth_limit node_limit 0 0 b r b' W) (row : List ℕ) where
-  pub listing_refused : (c : ℕ) → r ≡ found.Refused c → UndoListing s row c 0 row
-  listing_refused c q = refused-row (refuses_stopped s c (gathers_refused s 0 depth_limit node_limit 0 0 b b' W r w c q))
+pub listing_refused : (s : List ℕ) (row : List ℕ) (c : ℕ) → Stops s 0 depth_limit node_limit c → UndoListing s row c 0 row
+listing_refused s row c x = refused-row (refuses_stopped s c x)
 
-  module _ (next c k l : ℕ) (q : r ≡ found.Part next c k l) where
-    part : (t : Term) × Walks s 0 depth_limit node_limit t next c × Noted 0 t 0 0 b k l b' × W
-    part = gathers_part s 0 depth_limit node_limit 0 0 b b' W r w next c k l q
+module _ (s : List ℕ) (bytes : Bytes s) (b b' : Notes) (z : NoNotes b) (r : Part) (w : Gathers s 0 depth_limit node_limit b (Ok r) b') (row : List ℕ) where
+  pub listing_trailing : r.next < length s → UndoListing s row 1 0 row
+  listing_trailing h = refused-row (refuses_trailing s w.0 r.next r.left w.1 h)
 
-    pub all_whole : W
-    all_whole = part.3
+  pub counts_within : (b'.key_count ≤ node_limit) × (b'.last_count ≤ node_limit)
+  counts_within = omega (arith, z.1, z.2, w.1.nodes, w.2.key_count, w.2.last_count, keys_few w.0, lasts_few 0 b.scopes w.0)
 
-    pub listing_trailing : next < length s → UndoListing s row 1 0 row
-    listing_trailing h = refused-row (refuses_trailing s part.0 next c part.1 h)
+  module _ (h : length s ≤ r.next) where
+    t : Term
+    t = w.0
 
-    pub counts_within : (k ≤ node_limit) × (l ≤ node_limit)
-    counts_within = let p = part in omega (arith, p.1.nodes, p.2.key_count, p.2.last_count, keys_few p.0, lasts_few 0 b.scopes p.0)
+    readable : Reads s t
+    unfolding t
+    readable = reads_whole s t r.next r.left w.1 h
 
-    module _ (open_at : b.scopes ≡ open_scopes) (h : length s ≤ next) where
-      t : Term
-      t = part.0
+    in_range : InRange t
+    in_range = (read_fits s bytes readable).range
 
-      readable : Reads s t
-      unfolding t
-      readable = reads_whole s t next c part.1 h
+    all_keys : noted_keys b' ≡ keys t
+    unfolding t
+    all_keys = rw z.1 at w.2.more_keys
 
-      in_range : InRange t
-      in_range = (read_fits s bytes readable).range
+    all_last : noted_lasts b' ≡ all_lasts t
+    unfolding t
+    all_last = rw (z.2, z.0) at w.2.more_lasts
 
-      all_keys : take k b'.all ≡ keys t
-      unfolding t
-      all_keys = part.2.noted_keys
+    pub keys_small : Small (noted_keys b')
+    keys_small = rw all_keys (λ m i. omega (arith, range_key m t in_range (in_has m t i).1))
 
-      all_last : take l b'.rows ≡ all_lasts t
-      unfolding t
-      all_last = part.2.noted_lasts ∙ ap (λ (x : Scopes). lasts 0 x part.0) open_at
+    pub keys_positive : Positive (noted_keys b')
+    keys_positive = rw all_keys (λ m i. (in_has m t i).0)
 
-      pub keys_small : Small (take k b'.all)
-      keys_small = rw all_keys (λ m i. omega (arith, range_key m t in_range (in_has m t i).1))
+    pub keys_among : AllAmong (noted_keys b') (noted_lasts b')
+    keys_among = rw (all_keys, all_last) (lasts_among 0 open_scopes t)
 
-      pub keys_positive : Positive (take k b'.all)
-      keys_positive = rw all_keys (λ m i. (in_has m t i).0)
-
-      pub keys_among : AllAmong (take k b'.all) (take l b'.rows)
-      keys_among = rw (all_keys, all_last) (lasts_among 0 open_scopes t)
-
-      pub listing_done : (e n : ℕ) (row' : List ℕ) → Lines (take k b'.all) (take l b'.rows) row e n row' → UndoListing s row e n row'
-      listing_done e n row' x = lines_undoable s t row row' e n readable in_range (rw (all_keys, all_last) at x)
+    pub listing_done : (e n : ℕ) (row' : List ℕ) → Lines (noted_keys b') (noted_lasts b') row e n row' → UndoListing s row e n row'
+    listing_done e n row' x = lines_undoable s t row row' e n readable in_range (rw (all_keys, all_last) at x)

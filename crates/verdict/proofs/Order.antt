@@ -126,11 +126,3 @@ noted n ks us first second e s few p b x l = record { alike = x.alike; some = om
         empty : (a : ℕ) → [] ≡ row a ++ row (get_or second 0 0) → a ≡ 0
         empty zero q = refl
         empty (suc a) q = let z : ◌≡◌ {A = ℕ} 0 1 = cc in absurd (omega arith)
-
--- the columns that the cycle test asks for
-pub columns : (us first second one two : List ℕ) → Noted us first second → Climbed us first one → Climbed us second two → graph.Columns one two
-columns us first second one two x f g = record { alike = let z = x.alike in let y = f.0 in let w = g.0 in omega arith; some = let y = f.0 in let z = x.some in omega arith; few = let y = f.0 in let z = x.few in omega arith; below_one = λ k h. let y = f.0 in rw (f.1 k (omega arith)) (climbed_below (get_or first k 0) (x.first_inside k (omega arith))); below_two = λ k h. let y = g.0 in let w = f.0 in let z = x.alike in rw (g.1 k (omega arith)) (climbed_below (get_or second k 0) (x.second_inside k (omega arith))); root_one = f.1 0 x.some ∙ ap (above us) x.first_root; root_two = g.1 0 (let z = x.alike in let s = x.some in omega arith) ∙ ap (above us) x.second_root }
-  where
-    climbed_below : (r : ℕ) → r < length us + 1 → above us r < length one
-    climbed_below zero h = let y = f.0 in let s = x.some in omega arith
-    climbed_below (suc r) h = let y = f.0 in let z = x.ups_below r (omega arith) in omega arith

@@ -1,13 +1,12 @@
 -- The verdict of a term that is laid out in columns, from the answers of the tests on columns; its first two conditions hold.
-use mathlib.Core.Path.{◌≡◌}
+use mathlib.Core.Path.{◌≡◌, subst}
 use mathlib.Core.Logic.Iff
 use mathlib.Core.Logic.{◌↔◌}
 use mathlib.Core.List.{List}
 use mathlib.Core.Bool.{true}
-use Prim.Native.Nat.{ℕ, ◌≤◌, ◌<◌}
-use native.Mathlib.Decide.{ℕ_discrete}
-use native.Mathlib.Omega.{arith}
+use Prim.Native.Nat.{ℕ, ◌<◌}
 use lib.ListN.{length}
+use Rattle.std.specs.Prelude.{Option, Some, None}
 use Rattle.ccsk.specs.Term.{Term}
 use Rattle.causes.specs.Entry.{Entry, all}
 use Rattle.causes.specs.Tests as tests
@@ -15,6 +14,9 @@ use Rattle.causes.specs.Tests.{EachKey, AtMostTwo, Complements, Beside, Enclosed
 use Rattle.causes.proofs.Renaming.{Blind, two_blind, complements_blind, beside_blind, enclosed_blind, each_renamed, acyclic_renamed, all_known}
 use Rattle.causes.specs.Columns.{Below}
 use Rattle.cycles.specs.Graph as graph
+use Rattle.pairs.specs.declared.Condition.{Condition}
+use Rattle.pairs.specs.declared.Condition.TheVariants.{Complementary, Apart, Hidden}
+use Rattle.pairs.specs.Condition.{number_of}
 use Rattle.pairs.specs.Rows.{table, rows_of, Indexed}
 use Rattle.pairs.specs.Cause.{Lowest, CauseBelow}
 use Rattle.pairs.specs.Answer.{Climbed}
@@ -41,45 +43,46 @@ module _ (t : Term) (n : ℕ) (ks acs es ss us first second : List ℕ) (l : Lai
   pub verdict_3 : (k : ℕ) → 2 < length (rows_of k 0 ks) → Tested t 3
   verdict_3 k h = third_fails w c (λ f. three_rows ks acs es ss us first second l.square below l.keys k h ((each AtMostTwo two_blind).0 f))
 
-  module _ (x : Indexed ks first second) (r : ℕ) (g : CauseBelow (length first) acs es ss first second r) where
+  module _ (x : Indexed ks first second) (r : Option Condition) (g : CauseBelow (length first) acs es ss first second r) where
     twice : EachKey AtMostTwo (all t)
     twice = (each AtMostTwo two_blind).1 (two_rows ks acs es ss us first second l.square below l.keys x)
 
     low : Lowest (EachKey Complements rows) (EachKey Beside rows) (EachKey Enclosed rows) r
     low = lowest_rows ks acs es ss us first second l.square below l.keys x r g
 
-    paired : 4 < r → EachKey Complements (all t)
-    paired h = (each Complements complements_blind).1 (low.holds₄ h)
+    four : EachKey Complements (all t) ↔ EachKey Complements rows
+    four = each Complements complements_blind
 
-    apart : 5 < r → EachKey Beside (all t)
-    apart h = (each Beside beside_blind).1 (low.holds₅ h)
+    five : EachKey Beside (all t) ↔ EachKey Beside rows
+    five = each Beside beside_blind
 
-    hidden : 6 < r → EachKey Enclosed (all t)
-    hidden h = (each Enclosed enclosed_blind).1 (low.holds₆ h)
+    six : EachKey Enclosed (all t) ↔ EachKey Enclosed rows
+    six = each Enclosed enclosed_blind
 
     -- one of the conditions 4 to 6 fails
-    pub verdict_4_to_6 : r < 7 → Tested t r
-    verdict_4_to_6 h = pick (ℕ_discrete r 4) (ℕ_discrete r 5)
+    pub verdict_4_to_6 : (d : Condition) → r ≡ Some d → Tested t (number_of d)
+    verdict_4_to_6 d q = pick d (subst (Lowest (EachKey Complements rows) (EachKey Beside rows) (EachKey Enclosed rows)) q low)
       where
-        pick : Dec (r ≡ 4) → Dec (r ≡ 5) → Tested t r
-        pick (yes q) d = rw q (fourth_fails w c twice (λ f. low.fails₄ q ((each Complements complements_blind).0 f)))
-        pick (no p) (yes q) = rw q (fifth_fails w c twice (paired (omega arith)) (λ f. low.fails₅ q ((each Beside beside_blind).0 f)))
-        pick (no p) (no q) = six (let a = low.least in omega arith)
-          where
-            six : r ≡ 6 → Tested t r
-            six q = rw q (sixth_fails w c twice (paired (omega arith)) (apart (omega arith)) (λ f. low.fails₆ q ((each Enclosed enclosed_blind).0 f)))
+        pick : (d : Condition) → Lowest (EachKey Complements rows) (EachKey Beside rows) (EachKey Enclosed rows) (Some d) → Tested t (number_of d)
+        pick Complementary f = fourth_fails w c twice (λ z. f (four.0 z))
+        pick Apart f = fifth_fails w c twice (four.1 f.0) (λ z. f.1 (five.0 z))
+        pick Hidden f = sixth_fails w c twice (four.1 f.0) (five.1 f.1) (λ z. f.2 (six.0 z))
+        pick _ f = absurd f
 
     -- what the cycle test asks for
     pub asked : Noted us first second
     asked = noted n ks us first second e l.some l.few l.keys l.ups_below x l.square.ups
 
-    module _ (h : 7 ≤ r) (one two : List ℕ) (f : Climbed us first one) (i : Climbed us second two) where
+    module _ (h : r ≡ None) (one two : List ℕ) (f : Climbed us first one) (i : Climbed us second two) where
+      hold : EachKey Complements rows × EachKey Beside rows × EachKey Enclosed rows
+      hold = subst (Lowest (EachKey Complements rows) (EachKey Beside rows) (EachKey Enclosed rows)) h low
+
       same : tests.Acyclic (all t) ↔ graph.Acyclic one two
       same = Iff.trans order (acyclic_rows ks acs es ss us first second one two l.square below x f i)
 
       -- there is a cycle, or none
       pub verdict_7 : ¬ graph.Acyclic one two → Tested t 7
-      verdict_7 a = seventh_fails w c twice (paired (omega arith)) (apart (omega arith)) (hidden (omega arith)) (λ z. a (same.0 z))
+      verdict_7 a = seventh_fails w c twice (four.1 hold.0) (five.1 hold.1) (six.1 hold.2) (λ z. a (same.0 z))
 
       pub verdict_0 : graph.Acyclic one two → Tested t 0
-      verdict_0 a = none_fails w c twice (paired (omega arith)) (apart (omega arith)) (hidden (omega arith)) (same.1 a)
+      verdict_0 a = none_fails w c twice (four.1 hold.0) (five.1 hold.1) (six.1 hold.2) (same.1 a)

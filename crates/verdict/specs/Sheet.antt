@@ -1,26 +1,30 @@
 -- What the tests on columns ask of the columns and of the room that is lent to them, and what they answer.
-use Rattle.std.specs.Prelude.{◌≡◌, ◌⊎◌, ◌↔◌, List, Bool, true, ℕ, ◌+◌, ◌≤◌, ◌<◌, length, get_or}
+use Rattle.std.specs.Prelude.{◌≡◌, ◌⊎◌, ◌↔◌, List, Bool, true, ℕ, ◌+◌, ◌≤◌, ◌<◌, length, get_or, Option, Some}
 use Rattle.causes.specs.Columns.{Below}
+use Rattle.cycles.specs.declared.Pair.{Pair}
+use Rattle.cycles.specs.Pair.{firsts, seconds}
 use Rattle.cycles.specs.Graph.{Acyclic}
+use Rattle.pairs.specs.declared.Columns.{Columns}
+use Rattle.pairs.specs.declared.Condition.{Condition}
+use Rattle.pairs.specs.declared.Condition.TheVariants.{Twice}
 use Rattle.pairs.specs.Rows.{rows_of, Indexed}
 use Rattle.pairs.specs.Cause.{CauseBelow}
 use Rattle.pairs.specs.Answer.{Zero, Climbed}
 
--- columns of the same length, whose keys have a place in both lists of rows; nothing is noted yet
-pub record Blank (ks acs es ss first second : List ℕ) : Type 0 where
-  pub keys_below : Below (length first) ks
-  pub few : length ks < 65535
-  pub actions : length acs ≡ length ks
-  pub ends : length es ≡ length ks
-  pub scopes : length ss ≡ length ks
-  pub alike : length second ≡ length first
-  pub first_zero : Zero first
-  pub second_zero : Zero second
+-- columns of the same length, whose keys have a place in the list of rows; nothing is noted yet
+pub record Blank (x : Columns) (rows : List Pair) : Type 0 where
+  pub keys_below : Below (length rows) x.keys.now
+  pub few : length x.keys.now < 65535
+  pub actions : length x.actions.now ≡ length x.keys.now
+  pub ends : length x.ends.now ≡ length x.keys.now
+  pub scopes : length x.scopes.now ≡ length x.keys.now
+  pub first_zero : Zero (firsts rows)
+  pub second_zero : Zero (seconds rows)
 
--- a key stands in three rows, or all rows are noted and c is the lowest of the conditions 4 to 6 that fails, 7 if none does
-abbrev pub Pairing : List ℕ → List ℕ → List ℕ → List ℕ → List ℕ → List ℕ → ℕ → Type 0
-Pairing ks acs es ss first second c =
-    ((c ≡ 3) × (k : ℕ) × (2 < length (rows_of k 0 ks))) ⊎ (Indexed ks first second × CauseBelow (length first) acs es ss first second c)
+-- a key stands in three rows, or all rows are noted and c is the lowest of the conditions 4 to 6 that fails, if any does
+abbrev pub Pairing : Columns → List Pair → Option Condition → Type 0
+Pairing x rows c = ((c ≡ Some Twice) × (k : ℕ) × (2 < length (rows_of k 0 x.keys.now)))
+    ⊎ (Indexed x.keys.now (firsts rows) (seconds rows) × CauseBelow (length rows) x.actions.now x.ends.now x.scopes.now (firsts rows) (seconds rows) c)
 
 -- rows that lie in the column of keys right above, which are below the number of rows' lists; nothing is noted for 0
 pub record Noted (us first second : List ℕ) : Type 0 where

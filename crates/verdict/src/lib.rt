@@ -3,43 +3,31 @@
 #![tactic(auto)]
 
 ghost use Rattle.std.specs.Prelude.{◌≡◌, ◌≤◌, length};
+ghost use Rattle.cycles.specs.Pair.{firsts, seconds};
 ghost use Rattle.verdict.specs.Sheet.{Blank, Pairing, Noted, Ordering};
 
-// Condition 3: a key stands in more than two rows.
-const THRICE: u8 = 3;
+use cycles::{Pair, acyclic};
+use pairs::{Columns, Condition, causes, climb, index};
 
-// The lowest of the conditions 3 to 6 that fails, 7 if none does; unless it is 3, the rows of each key are noted.
-pub fn pairing(
-    keys: &[u16],
-    actions: &[u8],
-    ends: &[u16],
-    scopes: &[u16],
-    first: &mut [u16],
-    second: &mut [u16],
-) -> u8
-    requires { Blank keys.now actions.now ends.now scopes.now first.old second.old }
-    ensures { Pairing keys.now actions.now ends.now scopes.now first.new second.new result }
+// The lowest of the conditions 3 to 6 that fails; unless it is 3, the rows of each key are noted.
+pub fn pairing(columns: &Columns, rows: &mut [Pair]) -> Option<Condition>
+    requires { Blank columns.now rows.old }
+    ensures { Pairing columns.now rows.new result }
 {
-    if pairs::index(keys, first, second) {
-        return pairs::causes(first, second, actions, ends, scopes);
+    if index(columns.keys, rows) {
+        causes(rows, columns)
+    } else {
+        Some(Condition::Twice)
     }
-    THRICE
 }
 
 // Condition 7, from the noted rows of each key. The counters and the queue are room to work in.
-pub fn ordering(
-    ups: &[u16],
-    first: &mut [u16],
-    second: &mut [u16],
-    counters: &mut [u16],
-    queue: &mut [u16],
-) -> bool
-    requires noted { Noted ups.now first.old second.old }
-    requires counters_len { length counters.old ≡ length first.old }
-    requires first_in_bounds { length first.old ≤ length queue.old }
-    ensures { Ordering ups.now first.old second.old first.new second.new result }
+pub fn ordering(ups: &[u16], rows: &mut [Pair], counters: &mut [u16], queue: &mut [u16]) -> bool
+    requires noted { Noted ups.now (firsts rows.old) (seconds rows.old) }
+    requires counters_len { length counters.old ≡ length rows.old }
+    requires first_in_bounds { length rows.old ≤ length queue.old }
+    ensures { Ordering ups.now (firsts rows.old) (seconds rows.old) (firsts rows.new) (seconds rows.new) result }
 {
-    pairs::climb(ups, first);
-    pairs::climb(ups, second);
-    cycles::acyclic(first, second, counters, queue)
+    climb(ups, rows);
+    acyclic(rows, counters, queue)
 }

@@ -17,23 +17,10 @@ use Rattle.keyset.specs.Set.{member, members_below}
 use Rattle.keyset.proofs.Counts.{members_count}
 use Rattle.keyset.proofs.Members.{members_list}
 use Rattle.keys.proofs.Marks.{holds_members}
-use Rattle.filing.specs.Cabinet.{Cabinet}
-use Rattle.filing.specs.declared.Found.{Found}
-use Rattle.filing.specs.declared.Found.TheVariants.{Refused, Absent, Standing}
-use Rattle.filing.specs.Record.{Stands, AllFiled, FilesAll}
+use Rattle.filing.specs.declared.Cabinet.{Cabinet}
+use Rattle.filing.specs.Record.{Stands, AllFiled}
 use Rattle.chains.specs.Reach.{LeadsTo, Closed}
 use Rattle.waiting.specs.Listed.{ToKeys, Listed}
-
--- what filing comes to, once its case is known
-module _ (s : List ℕ) (m : Key) (x : Cabinet) (r : Found) (F : FilesAll s m x r) where
-  pub bytes_refused : (c : ℕ) → r ≡ Refused c → (row : List ℕ) → WaitingList s m row c 0 row
-  bytes_refused c e row = WaitingList.unreadable (subst (FilesAll s m x) e F)
-
-  pub key_absent : r ≡ Absent → 0 < m → (row : List ℕ) → WaitingList s m row 7 0 row
-  key_absent e p row = let S : Stands s m false = subst (FilesAll s m x) e F in WaitingList.key_absent S.1.reads p S.2
-
-  pub key_stands : (n : ℕ) → r ≡ Standing n → Stands s m true × AllFiled s x
-  key_stands n e = let z : FilesAll s m x (Standing n) = subst (FilesAll s m x) e F in (z.0, z.1)
 
 -- the set of the keys that were reached
 module _ (x : Cabinet) (m : Key) (marks : List ℕ) (n : ℕ) (C : Closed x m marks n) where

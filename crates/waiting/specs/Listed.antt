@@ -3,7 +3,8 @@ use Rattle.std.specs.Prelude.{List, ℕ, ◌<◌}
 use Rattle.ccsk.specs.Numbers.{Lists}
 use Rattle.ccsk.specs.Term.{Key}
 use Rattle.operations.specs.Ask.{Filled}
-use Rattle.filing.specs.Cabinet.{Cabinet, Link}
+use Rattle.filing.specs.declared.Cabinet.{Cabinet}
+use Rattle.filing.specs.Cabinet.{Link}
 use Rattle.chains.specs.Reach.{LeadsTo}
 
 -- every link leads to a key

@@ -1,7 +1,8 @@
--- Steps of a cursor add up, and what is shown after n steps from the first node is node n.
-use mathlib.Core.Path.{◌≡◌, refl, subst, sym, ◌∙◌}
+-- What is shown after n steps from the first node is node n.
+use mathlib.Core.Path.{◌≡◌, subst, sym, ◌∙◌}
 use mathlib.Core.List.{List}
-use Prim.Native.Nat.{ℕ, suc, ◌+◌, ◌≤◌}
+use Rattle.std.specs.Prelude.{Option}
+use Prim.Native.Nat.{ℕ, ◌+◌, ◌≤◌}
 use native.Mathlib.Omega.{arith}
 use native.Mathlib.Decide.{dec_le}
 use lib.ListN.{length, take, drop, drop_of_length-le}
@@ -10,33 +11,11 @@ use Rattle.ccsk.specs.Term.{Term, size}
 use Rattle.format.specs.Preorder.{preorder}
 use Rattle.cursor.specs.declared.Cursor.{Cursor}
 use Rattle.cursor.specs.declared.Shown.{Shown}
-use Rattle.cursor.specs.At.{CursorAt, Bears, Opens, Shows, Goes, showing}
+use Rattle.cursor.specs.At.{CursorAt, Bears, Opens, Shows, showing}
 use Rattle.cursor.proofs.Steps.{preorder-length}
 use Rattle.walker.specs.Shown.{NodeShown, GoesOn}
 
-pub goes_none : (s : List ℕ) (c : Cursor) → GoesOn s c 0 c
-goes_none s c = record {
-  on = λ t n C h. let e : n ≡ n + 0 = omega arith in subst (λ (m : ℕ). CursorAt s t m c) e C;
-  ends = λ t n C h. let e : n ≡ size t = omega (arith, C.within) in subst (λ (m : ℕ). CursorAt s t m c) e C;
-  refused = λ j b. refl;
-}
-
-module _ (s : List ℕ) (c r r' : Cursor) (k : ℕ) (G : GoesOn s c k r) (g : Goes s r r') where
-  further : (t : Term) (n : ℕ) → CursorAt s t n c → n + (k + 1) ≤ size t → CursorAt s t (n + (k + 1)) r'
-  further t n C h = let e : suc (n + k) ≡ n + (k + 1) = omega arith in subst (λ (m : ℕ). CursorAt s t m r') e (g.on t (n + k) (G.on t n C (omega arith)) (omega arith))
-
-  last : (t : Term) (n : ℕ) → CursorAt s t n c → size t ≤ n + (k + 1) → Dec (size t ≤ n + k) → CursorAt s t (size t) r'
-  last t n C h (yes m) = let D = G.ends t n C m in subst (CursorAt s t (size t)) (sym (g.stays t (size t) D (omega arith))) D
-  last t n C h (no m) = let e : n + (k + 1) ≡ size t = omega (arith, m) in subst (λ (i : ℕ). CursorAt s t i r') e (further t n C (omega (arith, e)))
-
-  pub goes_one_more : GoesOn s c (k + 1) r'
-  goes_one_more = record {
-    on = further;
-    ends = λ t n C h. last t n C h (dec_le (size t) (n + k));
-    refused = λ j b. g.refused j (subst (Bears j) (sym (G.refused j b)) b) ∙ G.refused j b;
-  }
-
-module _ (s : List ℕ) (c d : Cursor) (n : ℕ) (r : Shown) (G : GoesOn s c n d) (S : Shows s d r) where
+module _ (s : List ℕ) (c d : Cursor) (n : ℕ) (r : Option Shown) (G : GoesOn s c n d) (S : Shows s d r) where
   zero-add : 0 + n ≡ n
   zero-add = omega arith
 

@@ -1,5 +1,5 @@
 -- What is shown of a record: its nodes in preorder, and where a cursor stands after so many steps (01, The record).
-use Rattle.std.specs.Prelude.{◌≡◌, List, [], ℕ, ◌+◌, ◌≤◌, take, drop}
+use Rattle.std.specs.Prelude.{◌≡◌, List, [], ℕ, ◌+◌, ◌≤◌, take, drop, Option}
 use Rattle.ccsk.specs.Term.{Term, size}
 use Rattle.format.specs.Read.{Opened, refused, opened, decode}
 use Rattle.format.specs.Preorder as term
@@ -13,7 +13,7 @@ nodes (refused c) = []
 nodes (opened t) = term.preorder 1 t
 
 -- Of node n that node is shown, and past the last none (01, The record).
-abbrev pub NodeShown : List ℕ → ℕ → Shown → Type 0
+abbrev pub NodeShown : List ℕ → ℕ → Option Shown → Type 0
 NodeShown s n r = showing s r ≡ take 1 (drop n (nodes (decode s)))
 
 -- After k steps from node n the cursor stands at node n + k, or past the last; a refused cursor stays.

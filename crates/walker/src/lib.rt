@@ -2,10 +2,6 @@
 // `node`, on plain parameters, is for all other callers.
 #![tactic(auto)]
 
-ghost use Rattle.std.specs.Prelude.{◌≡◌};
-ghost use Rattle.cursor.specs.At.{Opens, Shows, Goes};
-ghost use Rattle.walker.specs.Shown.{GoesOn, NodeShown};
-
 use cursor::{Cursor, Shown};
 use shared::Node;
 
@@ -16,59 +12,52 @@ pub struct Walker<'a> {
     pub cursor: Cursor,
 }
 
-// A walker before the first node of the record; one that bears the refusal where the bytes are no record.
-pub fn open<'a>(bytes: &'a [u8]) -> Walker<'a>
-    ensures { (result.«record» ≡ bytes.entry) × Opens bytes.now result.cursor }
-{
-    Walker {
-        record: bytes,
-        cursor: cursor::open(bytes),
+impl<'a> Walker<'a> {
+    ghost use Rattle.std.specs.Prelude.{◌≡◌};
+    ghost use Rattle.cursor.specs.At.{Opens, Shows, Goes};
+    ghost use Rattle.walker.specs.Shown.{GoesOn};
+
+    // A walker before the first node of the record; one that bears the refusal where the bytes are no record.
+    pub fn open(bytes: &'a [u8]) -> Walker<'a>
+        ensures { (result.«record» ≡ bytes.entry) × Opens bytes.entry.now result.cursor }
+    {
+        Walker {
+            record: bytes,
+            cursor: Cursor::open(bytes),
+        }
+    }
+
+    // The node that the walker stands at.
+    pub fn show(&self) -> Option<Shown>
+        ensures { Shows self.now.«record».now self.now.cursor result }
+    {
+        self.cursor.show(self.record)
+    }
+
+    // Goes on to the node after the one that the walker stands at; past the last it stays there.
+    pub fn advance(&mut self)
+        ensures { (self.new.«record» ≡ self.old.«record») × Goes self.old.«record».now self.old.cursor self.new.cursor }
+    {
+        self.cursor.advance(self.record);
+    }
+
+    // Goes on so many steps.
+    pub fn onward(&mut self, steps: u16)
+        ensures { (self.new.«record» ≡ self.old.«record») × GoesOn self.old.«record».now self.old.cursor steps self.new.cursor }
+    {
+        for _ in 0..steps {
+            self.advance();
+        }
     }
 }
 
-// The node that the walker stands at.
-pub fn show<'a>(w: Walker<'a>) -> Shown
-    ensures { Shows w.entry.«record».now w.entry.cursor result }
-{
-    cursor::show(w.record, w.cursor)
-}
-
-// The walker at the node after the one that it stands at; past the last it stays there.
-pub fn next<'a>(w: Walker<'a>) -> Walker<'a>
-    ensures { (result.«record» ≡ w.entry.«record») × Goes w.entry.«record».now w.entry.cursor result.cursor }
-{
-    Walker {
-        record: w.record,
-        cursor: cursor::next(w.record, w.cursor),
-    }
-}
-
-// The cursor that so many steps lead to from this one.
-fn cursor_after(bytes: &[u8], c: Cursor, steps: u16) -> Cursor
-    ensures { GoesOn bytes.now c steps result }
-{
-    let mut at = c;
-    let mut gone: u16 = 0;
-    while gone < steps {
-        at = cursor::next(bytes, at);
-        gone += 1;
-    }
-    at
-}
-
-// The walker that so many steps lead to from this one.
-pub fn onward<'a>(w: Walker<'a>, steps: u16) -> Walker<'a>
-    ensures { (result.«record» ≡ w.entry.«record») × GoesOn w.entry.«record».now w.entry.cursor steps result.cursor }
-{
-    Walker {
-        record: w.record,
-        cursor: cursor_after(w.record, w.cursor, steps),
-    }
-}
+ghost use Rattle.walker.specs.Shown.{NodeShown};
 
 // What is shown of a node of the record: nothing past the last, and nothing of bytes that are no record.
-pub fn node(bytes: &[u8], n: Node) -> Shown
+pub fn node(bytes: &[u8], n: Node) -> Option<Shown>
     ensures { NodeShown bytes.now n.0 result }
 {
-    show(onward(open(bytes), n.0))
+    let mut walker = Walker::open(bytes);
+    walker.onward(n.0);
+    walker.show()
 }

@@ -1,28 +1,35 @@
--- `count` meets its contract: the numbers of the column before `i` have been counted.
-use borrow.Author.Rules.{rules}
-use native.Mathlib.Omega.{arith}
+-- `count` meets its contract: the pairs before the loop's have been counted.
 use mathlib.Core.Path.{refl}
-use lib.ListN.{length-set}
-use Rattle.cycles.proofs.Steps.{none_counted, one_counted, counted_fits, all_counted}
+use native.Mathlib.Omega.{arith}
+use lib.ListN.{get_or, length-set}
+use Prim.Native.Nat.{◌+◌}
+use Rattle.cycles.proofs.Steps.{none_counted, first_in, second_in, first_fits, second_fits, one_counted}
+use Rattle.cycles.specs.Pair.{firsts, seconds}
 use Rattle.cycles.proofs.count.Goals as goal
 
-pub loop-i-init : goal.loop-i-init
-loop-i-init c = (search rules, refl, none_counted c.args.column.now c.args.counters.now)
+pub loop-two-init : goal.loop-two-init
+loop-two-init c = none_counted (firsts c.args.over.now) (seconds c.args.over.now) c.args.counters.now
 
-pub offset_bounds-counters-u : goal.offset_bounds-counters-u
-offset_bounds-counters-u c = omega (arith, c.requires.below c.loop-i.i (omega arith), c.loop-i.invariant.1, c.wide-u.ensures)
-
-pub bounds-counters-u : goal.bounds-counters-u
-bounds-counters-u c = omega (arith, c.requires.below c.loop-i.i (omega arith), c.loop-i.invariant.1, c.wide-u.ensures)
+pub bounds-counters-from : goal.bounds-counters-from
+bounds-counters-from c = first_in c.args.over.now c.args.counters.now c.loop-two.counters c.loop-two.two-index c.from.result _ c.loop-two-test.true c.from.ensures refl c.loop-two.auto.counters c.requires.below c.loop-two.invariant
 
 pub overflow_add-counters : goal.overflow_add-counters
-overflow_add-counters c = omega (arith, counted_fits c.args.column.now c.args.counters.now c.loop-i.counters c.loop-i.i c.wide-u.result (omega arith) c.loop-i.invariant.1 (omega (arith, c.requires.below c.loop-i.i (omega arith), c.loop-i.invariant.1, c.wide-u.ensures)) c.requires.room c.loop-i.invariant.2)
+overflow_add-counters c = omega (arith, first_fits c.args.over.now c.args.counters.now c.loop-two.counters c.loop-two.two-index c.from.result _ c.loop-two-test.true c.from.ensures refl c.loop-two.auto.counters c.requires.below c.loop-two.invariant c.requires.room)
 
-pub bounds-counters-u-in-loop-i : goal.bounds-counters-u-in-loop-i
-bounds-counters-u-in-loop-i c = omega (arith, c.requires.below c.loop-i.i (omega arith), c.loop-i.invariant.1, c.wide-u.ensures)
+pub bounds-counters-from-in-loop-two : goal.bounds-counters-from-in-loop-two
+bounds-counters-from-in-loop-two c = first_in c.args.over.now c.args.counters.now c.loop-two.counters c.loop-two.two-index c.from.result _ c.loop-two-test.true c.from.ensures refl c.loop-two.auto.counters c.requires.below c.loop-two.invariant
 
-pub loop-i-preserved : goal.loop-i-preserved
-loop-i-preserved c = (search rules, simp length-set c.loop-i.invariant.1, one_counted c.args.column.now c.args.counters.now c.loop-i.counters c.loop-i.i c.wide-u.result (omega arith) c.wide-u.ensures c.loop-i.invariant.1 (omega (arith, c.requires.below c.loop-i.i (omega arith), c.loop-i.invariant.1, c.wide-u.ensures)) c.loop-i.invariant.2)
+pub offset_bounds-counters-from-in-loop-two : goal.offset_bounds-counters-from-in-loop-two
+offset_bounds-counters-from-in-loop-two c = omega (arith, c.from-in-loop-two.type_inv, second_in c.args.over.now c.args.counters.now c.loop-two.counters c.loop-two.two-index c.from.result c.from-in-loop-two.result c.loop-two-test.true c.from.ensures c.from-in-loop-two.ensures c.loop-two.auto.counters c.requires.below c.loop-two.invariant, length-set c.loop-two.counters c.from.result (get_or c.loop-two.counters c.from.result 0 + 1))
 
-pub returns : goal.returns
-returns c = all_counted c.args.column.now c.args.counters.now c.loop-i.counters c.loop-i.i (omega arith) c.loop-i.invariant.2
+pub bounds-counters-from-in-loop-two-2 : goal.bounds-counters-from-in-loop-two-2
+bounds-counters-from-in-loop-two-2 c = second_in c.args.over.now c.args.counters.now c.loop-two.counters c.loop-two.two-index c.from.result c.from-in-loop-two.result c.loop-two-test.true c.from.ensures c.from-in-loop-two.ensures c.loop-two.auto.counters c.requires.below c.loop-two.invariant
+
+pub overflow_add-counters-in-loop-two : goal.overflow_add-counters-in-loop-two
+overflow_add-counters-in-loop-two c = omega (arith, second_fits c.args.over.now c.args.counters.now c.loop-two.counters c.loop-two.two-index c.from.result c.from-in-loop-two.result c.loop-two-test.true c.from.ensures c.from-in-loop-two.ensures c.loop-two.auto.counters c.requires.below c.loop-two.invariant c.requires.room)
+
+pub bounds-counters-from-in-loop-two-3 : goal.bounds-counters-from-in-loop-two-3
+bounds-counters-from-in-loop-two-3 c = second_in c.args.over.now c.args.counters.now c.loop-two.counters c.loop-two.two-index c.from.result c.from-in-loop-two.result c.loop-two-test.true c.from.ensures c.from-in-loop-two.ensures c.loop-two.auto.counters c.requires.below c.loop-two.invariant
+
+pub loop-two-preserved : goal.loop-two-preserved
+loop-two-preserved c = one_counted c.args.over.now c.args.counters.now c.loop-two.counters c.loop-two.two-index c.from.result c.from-in-loop-two.result c.loop-two-test.true c.from.ensures c.from-in-loop-two.ensures c.loop-two.auto.counters c.requires.below c.loop-two.invariant

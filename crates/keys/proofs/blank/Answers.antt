@@ -1,4 +1,5 @@
 -- `blank` meets its contract: the reader decides whether there is a record to wipe.
+use Rattle.std.proofs.lemmas.Result.{err_from_is_err_and}
 use Rattle.operations.specs.Change.{BlankForm}
 use Rattle.keys.proofs.Marks.{holds_none}
 use Rattle.reader.proofs.Whole.{record_refused, slice_bytes}
@@ -6,11 +7,15 @@ use Rattle.keys.proofs.Reading.{was_read}
 use Rattle.keys.proofs.Answers.{blanked}
 use Rattle.keys.proofs.blank.Goals as goal
 
-pub wipe-requires : goal.wipe-requires
-wipe-requires c = record { readable = was_read c.args.bytes.now c.read.result c.read.ensures (slice_bytes c.args.bytes.now (λ i. (c.slice_known-1.given i).fits)) _ c.in-Is.is; holds = holds_none }
+pub returns-in_err-read : goal.returns-in_err-read
+returns-in_err-read c = let p = err_from_is_err_and c.from_residual.result c.from_residual.ensures.1 in
+    rw (p.1, p.2) (BlankForm.unreadable (record_refused c.args.bytes.now _ c.in_err-read.ensures))
 
-pub returns-in-Refused : goal.returns-in-Refused
-returns-in-Refused c = BlankForm.unreadable (record_refused c.args.bytes.now _ (rw c.in-Refused.is at c.read.ensures))
+pub wipe-requires-clause-readable : goal.wipe-requires-clause-readable
+wipe-requires-clause-readable c = was_read c.args.bytes.now _ c.in_ok-read.ensures (slice_bytes c.args.bytes.now (λ i. (c.slice_known-1.given i).fits))
 
-pub returns-in-Is : goal.returns-in-Is
-returns-in-Is c = blanked c.args.bytes.now _ _ c.wipe.ensures.0 _ c.wipe.ensures.1
+pub wipe-requires-clause-holds : goal.wipe-requires-clause-holds
+wipe-requires-clause-holds c = rw c.new.ensures holds_none
+
+pub returns : goal.returns
+returns c = blanked c.args.bytes.now _ _ c.wipe.ensures.0 _ c.wipe.ensures.1

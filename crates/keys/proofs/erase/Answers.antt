@@ -1,25 +1,26 @@
 -- `erase` meets its contract: the front of the bytes is the erased term's, by the laws of Clearing.
-use native.Mathlib.Omega.{arith}
-use mathlib.Core.Path.{refl}
-use Rattle.keys.proofs.AtNode.{due_within}
-use Rattle.keys.proofs.Clearing.{erased, onward, start}
+use mathlib.Core.Path.{refl, ap, ◌∙◌}
+use Rattle.keys.proofs.AtNode.{due_within, key_inside}
+use Rattle.keys.proofs.Clearing.{erased, erased_there, erased_not, onward, start}
 use Rattle.keyset.specs.Set.{member}
 use Rattle.keys.proofs.erase.Goals as goal
 
 pub loop-at-init : goal.loop-at-init
-loop-at-init c = start (member c.args.marks.now) c.args.bytes.now c.requires.readable
+loop-at-init c = start (member c.args.marks.now.bytes) c.args.bytes.now c.requires
 
-pub erase_past-at-requires : goal.erase_past-at-requires
-erase_past-at-requires c = (due_within c.loop-at.bytes c.loop-at.at c.loop-at-test.true _ c.loop-at.invariant.due, c.requires.marks_len)
+pub keyed_at-node-requires : goal.keyed_at-node-requires
+keyed_at-node-requires c = due_within c.loop-at.bytes c.loop-at.at c.loop-at-test.true _ c.loop-at.invariant.due
 
-pub loop-at-smaller : goal.loop-at-smaller
-loop-at-smaller c = omega (arith, (due_within c.loop-at.bytes c.loop-at.at c.loop-at-test.true _ c.loop-at.invariant.due).1, c.erase_past-at.ensures.1, c.bytes-1.given, c.loop-at-test.true)
+pub clear_at-requires : goal.clear_at-requires
+clear_at-requires c = (c.loop-at-test.true, key_inside c.loop-at.bytes c.loop-at.at (due_within c.loop-at.bytes c.loop-at.at c.loop-at-test.true _ c.loop-at.invariant.due))
+
+pub loop-at-preserved-then-has : goal.loop-at-preserved-then-has
+loop-at-preserved-then-has c = let e = c.has.ensures ∙ ap (member c.args.marks.now.bytes) c.keyed_at-node.ensures.0 in
+    rw c.keyed_at-node.ensures.1 (onward (member c.args.marks.now.bytes) c.args.bytes.now c.loop-at.bytes c.loop-at.at c.loop-at.invariant c.loop-at-test.true _ refl _ refl _ (erased_there c.loop-at.bytes c.loop-at.at _ c.has.result e c.if-has.true _ c.clear_at.ensures))
 
 pub loop-at-preserved : goal.loop-at-preserved
-loop-at-preserved c = rw c.erase_past-at.ensures.1 (onward (member c.args.marks.now) c.args.bytes.now c.loop-at.bytes c.loop-at.at c.loop-at.invariant c.loop-at-test.true _ refl _ refl _ c.erase_past-at.ensures.0)
-
-pub shape_of-bytes : goal.shape_of-bytes
-shape_of-bytes c = c.loop-at.invariant.same
+loop-at-preserved c = let e = c.has.ensures ∙ ap (member c.args.marks.now.bytes) c.keyed_at-node.ensures.0 in
+    rw c.keyed_at-node.ensures.1 (onward (member c.args.marks.now.bytes) c.args.bytes.now c.loop-at.bytes c.loop-at.at c.loop-at.invariant c.loop-at-test.true _ refl _ refl _ (erased_not c.loop-at.bytes c.loop-at.at _ c.has.result e c.if-has.false))
 
 pub returns : goal.returns
-returns c = erased (member c.args.marks.now) c.args.bytes.now c.loop-at.bytes c.loop-at.at c.loop-at.invariant c.loop-at-test.false
+returns c = erased (member c.args.marks.now.bytes) c.args.bytes.now c.loop-at.bytes c.loop-at.at c.loop-at.invariant c.loop-at-test.false

@@ -1,10 +1,5 @@
-use Prim.Native.Nat.{◌-◌}
-use lib.ListN.{length}
 use Rattle.keys.proofs.Marks.{Front}
 use Rattle.keys.proofs.mark_all.Given as goal
 
-abbrev pub invariant-loop-i : goal.invariant-loop-i
-invariant-loop-i l = Front l.column l.i l.marks l.n
-
-abbrev pub decreases-loop-i : goal.decreases-loop-i
-decreases-loop-i l = length l.column - l.i
+abbrev pub invariant-loop-key : goal.invariant-loop-key
+invariant-loop-key l = Front l.column l.key-index l.marks.bytes l.n

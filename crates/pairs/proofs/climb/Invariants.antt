@@ -1,11 +1,6 @@
-use mathlib.Core.Path.{◌≡◌}
-use Prim.Native.Nat.{◌≤◌, ◌-◌}
-use lib.ListN.{length}
+use Rattle.cycles.specs.Pair.{firsts, seconds}
 use Rattle.pairs.proofs.Climbing.{Climbing}
 use Rattle.pairs.proofs.climb.Given as goal
 
-abbrev pub invariant-loop-k : goal.invariant-loop-k
-invariant-loop-k l = (l.k ≤ length l.initial.rows) × (length l.rows ≡ length l.initial.rows) × Climbing l.ups l.initial.rows l.rows l.k
-
-abbrev pub decreases-loop-k : goal.decreases-loop-k
-decreases-loop-k l = length l.initial.rows - l.k
+abbrev pub invariant-loop-two : goal.invariant-loop-two
+invariant-loop-two l = record { firsts : Climbing l.ups (firsts l.initial.two-items) (firsts l.two-items) l.two-index; seconds : Climbing l.ups (seconds l.initial.two-items) (seconds l.two-items) l.two-index }

@@ -1,11 +1,7 @@
-use mathlib.Core.Path.{◌≡◌}
-use Prim.Native.Nat.{◌≤◌, ◌-◌}
-use lib.ListN.{length, take}
+use lib.ListN.{take}
+use Rattle.cycles.specs.Pair.{firsts, seconds}
 use Rattle.pairs.specs.Rows.{Indexed}
 use Rattle.pairs.proofs.index.Given as goal
 
-abbrev pub invariant-loop-first : goal.invariant-loop-first
-invariant-loop-first l = (l.i ≤ length l.keys) × (length l.first ≡ length l.initial.first) × Indexed (take l.i l.keys) l.first l.second
-
-abbrev pub decreases-loop-first : goal.decreases-loop-first
-decreases-loop-first l = length l.keys - l.i
+abbrev pub invariant-loop-row : goal.invariant-loop-row
+invariant-loop-row l = Indexed (take l.row l.keys) (firsts l.rows) (seconds l.rows)

@@ -1,27 +1,35 @@
 -- `plan_undo` meets its contract: each return is one law of Plans about what the pass found.
-use native.Mathlib.Omega.{arith}
+use Rattle.std.proofs.lemmas.Result.{err_from_is_err_and}
+use Rattle.std.proofs.Common.{arith}
 use Rattle.operations.specs.Change.{UndoStep.unreadable}
 use Rattle.reader.proofs.Whole.{slice_bytes}
-use Rattle.plans.proofs.Plans.{whole_refused, whole_seen, undo_zero, undo_absent, undo_one, undo_two, undo_still, undo_stuck}
+use Rattle.plans.proofs.Plans.{undo_zero, undo_absent, undo_more, undo_none, undo_one, undo_two}
 use Rattle.plans.proofs.plan_undo.Goals as goal
+use Rattle.plans.proofs.plan_undo.Goals.{in-One, in-Two}
+
+pub returns-in_err-seen : goal.returns-in_err-seen
+returns-in_err-seen c = let p = err_from_is_err_and c.from_residual.result c.from_residual.ensures.1 in rw (p.1, p.2) (unreadable c.in_err-seen.ensures)
 
 pub returns-then-key-eq0 : goal.returns-then-key-eq0
-returns-then-key-eq0 c = let a = c.args in let w = c.survey_all in undo_zero a.s.now (slice_bytes a.s.now (λ i. omega (arith, c.type_inv.s i))) a.key _ (whole_seen a.s.now _ w.result w.ensures _ c.in-Seen.is) c.if-key-eq0.true
+returns-then-key-eq0 c = let a = c.args in undo_zero a.s.now a.key _ c.in_ok-seen.ensures c.if-key-eq0.true
 
-pub returns-then-seen-eq0 : goal.returns-then-seen-eq0
-returns-then-seen-eq0 c = let a = c.args in let w = c.survey_all in undo_absent a.s.now (slice_bytes a.s.now (λ i. omega (arith, c.type_inv.s i))) a.key _ (whole_seen a.s.now _ w.result w.ensures _ c.in-Seen.is) c.if-key-eq0.false c.if-seen-eq0.true
+pub returns-in-Zero : goal.returns-in-Zero
+returns-in-Zero c = let a = c.args in undo_absent a.s.now a.key _ c.in_ok-seen.ensures c.if-key-eq0.false c.in-Zero.is
 
-pub returns-then-seen-eq1 : goal.returns-then-seen-eq1
-returns-then-seen-eq1 c = let a = c.args in let w = c.survey_all in undo_one a.s.now (slice_bytes a.s.now (λ i. omega (arith, c.type_inv.s i))) a.key _ (whole_seen a.s.now _ w.result w.ensures _ c.in-Seen.is) c.if-key-eq0.false _ c.in-Step.is c.if-seen-eq1.true
+pub returns-in-More : goal.returns-in-More
+returns-in-More c = let a = c.args in undo_more a.s.now a.key _ c.in_ok-seen.ensures c.if-key-eq0.false _ _ _ c.in-More.is
 
-pub returns-in-Refused : goal.returns-in-Refused
-returns-in-Refused c = let w = c.survey_all in (tt, unreadable (whole_refused c.args.s.now _ w.result w.ensures _ c.in-Refused.is))
+pub returns-in_err-label : goal.returns-in_err-label
+returns-in_err-label c = let a = c.args in
+    let p = err_from_is_err_and c.from_residual-in_err-label.result c.from_residual-in_err-label.ensures.1 in
+    rw (p.1, p.2) (undo_none a.s.now a.key _ c.in_ok-seen.ensures c.if-key-eq0.false _ (rw c.label.ensures at c.in_err-label.ensures.value)
+    (λ z. elim c.match-seen.branch [ in-One w ↦ absurd cc | in-Two w ↦ absurd cc ]))
 
-pub returns-else-seen-eq1 : goal.returns-else-seen-eq1
-returns-else-seen-eq1 c = let a = c.args in let w = c.survey_all in undo_two a.s.now (slice_bytes a.s.now (λ i. omega (arith, c.type_inv.s i))) a.key _ (whole_seen a.s.now _ w.result w.ensures _ c.in-Seen.is) c.if-key-eq0.false _ c.in-Step.is c.if-seen-eq1.false
-
-pub returns-in-Still : goal.returns-in-Still
-returns-in-Still c = let a = c.args in let w = c.survey_all in undo_still a.s.now (slice_bytes a.s.now (λ i. omega (arith, c.type_inv.s i))) a.key _ (whole_seen a.s.now _ w.result w.ensures _ c.in-Seen.is) c.if-key-eq0.false c.if-seen-eq0.false c.in-Still.is
-
-pub returns-in-Stuck : goal.returns-in-Stuck
-returns-in-Stuck c = let a = c.args in let w = c.survey_all in undo_stuck a.s.now (slice_bytes a.s.now (λ i. omega (arith, c.type_inv.s i))) a.key _ (whole_seen a.s.now _ w.result w.ensures _ c.in-Seen.is) c.if-key-eq0.false c.in-Stuck.is
+pub returns : goal.returns
+returns c = let a = c.args in
+    let b = slice_bytes a.s.now (λ i. omega (arith, c.type_inv.s i)) in
+    let l = rw c.label.ensures at c.in_ok-label.ensures.value in
+    elim c.match-seen.branch [
+      | in-One w ↦ rw w.first-is (undo_one a.s.now a.key _ c.in_ok-seen.ensures c.if-key-eq0.false b _ l _ w.in-One.is)
+      | in-Two w ↦ rw w.first-is (undo_two a.s.now a.key _ c.in_ok-seen.ensures c.if-key-eq0.false b _ l _ _ w.in-Two.is)
+    ]

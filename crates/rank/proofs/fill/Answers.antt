@@ -1,35 +1,32 @@
 -- `fill` meets its contract: n is the rank of byte i's first number, and the ranks of all bytes before are written down; once all members
 -- are ranked, these bytes hold them all.
-use Prim.Native.Nat.{◌*◌}
 use native.Mathlib.Omega.{arith}
+use mathlib.Core.Path.{sym, ◌∙◌}
+use Prim.Native.Nat.{◌+◌, ◌*◌}
 use lib.ListN.{length-set}
-use Rattle.rank.proofs.Ranks.{rank_bound}
-use Rattle.rank.proofs.Steps.{rank_nothing, ranks_more, next_byte, byte_left, all_ranked}
+use Rattle.rank.proofs.Ranks.{rank_bound, rank_ordered}
+use Rattle.rank.proofs.Steps.{none_ranked, passed_none, passed_empty, passed_byte, all_ranked}
 use Rattle.rank.proofs.fill.Goals as goal
+use Rattle.rank.proofs.fill.Goals.{then-set-i-ne0+else-n-many, else-set-i-ne0}
 
-pub loop-n-init : goal.loop-n-init
-loop-n-init c = (c.requires.1, rank_nothing c.args.marks.now, λ j h. absurd (omega arith))
+pub returns-then-many-eq0 : goal.returns-then-many-eq0
+returns-then-many-eq0 c = none_ranked c.args.set.now.bytes c.args.base.now (sym c.if-many-eq0.true ∙ c.requires)
+
+pub loop-i-init : goal.loop-i-init
+loop-i-init c = (omega arith, passed_none c.args.set.now.bytes c.args.base.now)
 
 pub overflow_cast-base : goal.overflow_cast-base
-overflow_cast-base c = omega (arith, byte_left c.args.marks.now c.loop-n.i _ _ c.loop-n.invariant.1 c.requires.2 c.loop-n-test.true, rank_bound c.args.marks.now (c.loop-n.i * 8))
+overflow_cast-base c = omega (arith, c.loop-i.invariant.1.next, rank_bound c.args.set.now.bytes (c.loop-i.i * 8))
 
-pub offset_bounds-base-i : goal.offset_bounds-base-i
-offset_bounds-base-i c = omega (arith, byte_left c.args.marks.now c.loop-n.i _ _ c.loop-n.invariant.1 c.requires.2 c.loop-n-test.true)
+pub returns-then-n-many : goal.returns-then-n-many
+returns-then-n-many c = let P = passed_byte c.args.set.now.bytes c.loop-i.base c.loop-i.i c.loop-i.n c.loop-i.invariant.1 (omega (arith, c.loop-i.invariant.0, c.loop-i-test.true)) c.climb-n.result c.climb-n.ensures in
+    all_ranked c.args.set.now.bytes _ (c.loop-i.i + 1) c.climb-n.result P c.args.many c.requires (omega (arith, c.if-n-many.true))
 
-pub bounds-base-i : goal.bounds-base-i
-bounds-base-i c = byte_left c.args.marks.now c.loop-n.i _ _ c.loop-n.invariant.1 c.requires.2 c.loop-n-test.true
-
-pub pass_byte-n-requires : goal.pass_byte-n-requires
-pass_byte-n-requires c = record { marks_len = c.requires.0; i_bound = (byte_left c.args.marks.now c.loop-n.i _ _ c.loop-n.invariant.1 c.requires.2 c.loop-n-test.true, c.loop-n.invariant.1) }
-
-pub overflow_add-i : goal.overflow_add-i
-overflow_add-i c = omega (arith, byte_left c.args.marks.now c.loop-n.i _ _ c.loop-n.invariant.1 c.requires.2 c.loop-n-test.true)
-
-pub loop-n-smaller : goal.loop-n-smaller
-loop-n-smaller c = omega (arith, byte_left c.args.marks.now c.loop-n.i _ _ c.loop-n.invariant.1 c.requires.2 c.loop-n-test.true)
-
-pub loop-n-preserved : goal.loop-n-preserved
-loop-n-preserved c = (simp length-set c.loop-n.invariant.0, next_byte c.args.marks.now c.loop-n.i _ c.pass_byte-n.ensures, ranks_more c.args.marks.now c.loop-n.base c.loop-n.i _ (omega (arith, byte_left c.args.marks.now c.loop-n.i _ _ c.loop-n.invariant.1 c.requires.2 c.loop-n-test.true, c.loop-n.invariant.0)) c.loop-n.invariant.1 c.loop-n.invariant.2)
+pub loop-i-preserved : goal.loop-i-preserved
+loop-i-preserved c = elim c.if-set-i-ne0.branch [
+  | then-set-i-ne0+else-n-many w ↦ rw (w.base-is, w.n-is) (simp length-set c.loop-i.invariant.0, passed_byte c.args.set.now.bytes c.loop-i.base c.loop-i.i c.loop-i.n c.loop-i.invariant.1 (omega (arith, c.loop-i.invariant.0, c.loop-i-test.true)) w.climb-n.result w.climb-n.ensures)
+  | else-set-i-ne0 w ↦ rw (w.base-is, w.n-is) (c.loop-i.invariant.0, passed_empty c.args.set.now.bytes c.loop-i.base c.loop-i.i c.loop-i.n c.loop-i.invariant.1 w.if-set-i-ne0.false)
+]
 
 pub returns : goal.returns
-returns c = all_ranked c.args.marks.now c.loop-n.base c.loop-n.i _ _ c.loop-n.invariant.0 c.loop-n.invariant.1 c.requires.2 (omega arith) c.loop-n.invariant.2
+returns c = all_ranked c.args.set.now.bytes c.loop-i.base c.loop-i.i c.loop-i.n c.loop-i.invariant.1 c.args.many c.requires (omega (arith, c.requires, c.loop-i.invariant.1.next, rank_ordered c.args.set.now.bytes 65536 (c.loop-i.i * 8) (omega (arith, c.loop-i-test.false))))

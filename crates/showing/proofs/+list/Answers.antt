@@ -1,55 +1,101 @@
 -- `list` meets its contract: whatever is listed from the present node on completes the list of the part, by one law of Showing for its form.
-use mathlib.Core.Path.{sym, ◌∙◌}
+use Rattle.std.proofs.Common.{rules}
+use mathlib.Core.Path.{◌≡◌}
 use native.Mathlib.Omega.{arith}
 use lib.ListN.{get_or}
 use Rattle.offers.proofs.Forms.{inside, next_inside, part_below, part_beyond, hidden_name, part_end}
-use Rattle.showing.proofs.Showing.{lists_nothing, lists_own, lists_next, lists_hidden, lists_two, lists_beyond, lists_before, not_second}
+use Rattle.index.specs.declared.Form.TheVariants.{Nothing, Own, Next, Second, Hidden}
+use Rattle.index.specs.Whole.{number_of, forms}
+use Rattle.index.proofs.FormNumbers.{deeper, one_of_two, of_two, first_of_two, second_of_two}
+use Rattle.showing.proofs.Showing.{lists_nothing, lists_own, lists_next, lists_second, lists_hidden, lists_two, lists_beyond, lists_before}
 use Rattle.showing.proofs.+list.Goals as goal
 
-pub loop-at-init : goal.loop-at-init
-loop-at-init t c = (c.requires.some_part, c.requires.room.2, c.requires.room.1, (λ L' c' l. l), omega arith, inside c.requires.some_part)
+pub down-init : goal.down-init
+down-init t c = record { part = c.requires.some_part; few = c.requires.few; later = omega arith; rest = λ L l. l }
 
-pub loop-at-preserved-then-form-eq-NEXT : goal.loop-at-preserved-then-form-eq-NEXT
-loop-at-preserved-then-form-eq-NEXT t c = let D = part_below c.loop-at.invariant.0 (omega (arith, c.if-form-eq-NEXT.true)) (λ e. omega (arith, c.if-form-eq-NEXT.true)) in (D, omega (arith, c.loop-at.invariant.1), c.loop-at.invariant.2, (λ L' c' l. c.loop-at.invariant.3 L' c' (lists_next c.if-form-eq-NEXT.true l)), omega (arith, c.loop-at.invariant.4), inside D)
+pub form_at-form-requires : goal.form_at-form-requires
+form_at-form-requires t c = inside c.down.invariant.part
 
-pub without_name-want-requires : goal.without_name-want-requires
-without_name-want-requires t c = hidden_name c.loop-at.invariant.0 c.if-form-eq-HIDDEN.true
-
-pub loop-at-preserved-then-form-eq-HIDDEN : goal.loop-at-preserved-then-form-eq-HIDDEN
-loop-at-preserved-then-form-eq-HIDDEN t c = let D = part_below c.loop-at.invariant.0 (omega (arith, c.if-form-eq-HIDDEN.true)) (λ e. omega (arith, c.if-form-eq-HIDDEN.true)) in (D, omega (arith, c.loop-at.invariant.1), c.loop-at.invariant.2, (λ L' c' l. c.loop-at.invariant.3 L' c' (lists_hidden c.if-form-eq-HIDDEN.true c.without_name-want.ensures l)), omega (arith, c.loop-at.invariant.4), inside D)
-
-pub second_part-second-requires : goal.second_part-second-requires
-second_part-second-requires t c = (next_inside c.loop-at.invariant.0 (omega (arith, c.loop-at-test.true)), c.requires.room.0.ends)
-
-pub shows_none-requires : goal.shows_none-requires
-shows_none-requires t c = next_inside c.loop-at.invariant.0 (omega (arith, c.loop-at-test.true))
-
-pub loop-at-smaller-then-either : goal.loop-at-smaller-then-either
-loop-at-smaller-then-either t c = omega (arith, (part_beyond c.loop-at.invariant.0 c.second_part-second.ensures (omega (arith, c.loop-at-test.true, c.if-form-eq-NEXT.false)) c.if-form-eq-HIDDEN.false).1, c.loop-at.invariant.5)
-
-pub loop-at-preserved-then-either : goal.loop-at-preserved-then-either
-loop-at-preserved-then-either t c = let B = (part_beyond c.loop-at.invariant.0 c.second_part-second.ensures (omega (arith, c.loop-at-test.true, c.if-form-eq-NEXT.false)) c.if-form-eq-HIDDEN.false) in (B.0, omega (arith, c.loop-at.invariant.1, B.1), c.loop-at.invariant.2, (λ L' c' l. c.loop-at.invariant.3 L' c' (lists_beyond _ c.second_part-second.ensures (omega (arith, c.loop-at-test.true, c.if-form-eq-NEXT.false)) c.if-form-eq-HIDDEN.false c.loop-at.invariant.1 c.shows_none.ensures c.either.ensures c.if-either.true l)), omega (arith, B.1, c.loop-at.invariant.4), inside B.0)
-
-pub shows_none-requires-in-loop-at : goal.shows_none-requires-in-loop-at
-shows_none-requires-in-loop-at t c = inside (part_beyond c.loop-at.invariant.0 c.second_part-second.ensures (omega (arith, c.loop-at-test.true, c.if-form-eq-NEXT.false)) c.if-form-eq-HIDDEN.false).0
-
-pub loop-at-preserved-then-shows_none : goal.loop-at-preserved-then-shows_none
-loop-at-preserved-then-shows_none t c = let D = part_below c.loop-at.invariant.0 (omega (arith, c.loop-at-test.true)) (not_second (get_or c.args.forms.now c.loop-at.at 0) c.shows_none.result c.either.ensures c.if-either.false) in (D, omega (arith, c.loop-at.invariant.1), c.loop-at.invariant.2, (λ L' c' l. c.loop-at.invariant.3 L' c' (lists_before _ c.second_part-second.ensures (omega (arith, c.loop-at-test.true, c.if-form-eq-NEXT.false)) c.if-form-eq-HIDDEN.false (not_second (get_or c.args.forms.now c.loop-at.at 0) c.shows_none.result c.either.ensures c.if-either.false) (c.shows_none-in-loop-at.ensures c.if-shows_none.true) D l)), omega (arith, c.loop-at.invariant.4), inside D)
-
-pub list-many-requires : goal.list-many-requires
-list-many-requires t c = (omega (arith, c.decreases, inside c.loop-at.invariant.0, c.loop-at.invariant.4), (part_below c.loop-at.invariant.0 (omega (arith, c.loop-at-test.true)) (not_second (get_or c.args.forms.now c.loop-at.at 0) c.shows_none.result c.either.ensures c.if-either.false), (c.requires.room.0, c.loop-at.invariant.2, omega (arith, c.loop-at.invariant.1))))
-
-pub loop-at-smaller : goal.loop-at-smaller
-loop-at-smaller t c = omega (arith, (part_beyond c.loop-at.invariant.0 c.second_part-second.ensures (omega (arith, c.loop-at-test.true, c.if-form-eq-NEXT.false)) c.if-form-eq-HIDDEN.false).1, c.loop-at.invariant.5)
-
-pub loop-at-preserved : goal.loop-at-preserved
-loop-at-preserved t c = let B = (part_beyond c.loop-at.invariant.0 c.second_part-second.ensures (omega (arith, c.loop-at-test.true, c.if-form-eq-NEXT.false)) c.if-form-eq-HIDDEN.false) in let D = part_below c.loop-at.invariant.0 (omega (arith, c.loop-at-test.true)) (not_second (get_or c.args.forms.now c.loop-at.at 0) c.shows_none.result c.either.ensures c.if-either.false) in (B.0, omega (arith, c.list-many.ensures.few D.0 D.1, part_end D.0 D.1, c.second_part-second.ensures), c.list-many.ensures.room ∙ c.loop-at.invariant.2, (λ L' c' l. c.loop-at.invariant.3 L' c' (lists_two c.second_part-second.ensures c.list-many.ensures l (omega (arith, c.loop-at-test.true, c.if-form-eq-NEXT.false, not_second (get_or c.args.forms.now c.loop-at.at 0) c.shows_none.result c.either.ensures c.if-either.false)) c.if-form-eq-HIDDEN.false)), omega (arith, B.1, c.loop-at.invariant.4), inside B.0)
+pub returns-then-eq : goal.returns-then-eq
+returns-then-eq t c = let e : c.form_at-form.result ≡ Nothing = search rules in let z : number_of Nothing ≡ get_or (forms c.args.rows.now) c.down.at 0 = rw e at c.form_at-form.ensures.0 in c.down.invariant.rest _ (lists_nothing (omega (arith, z)) c.down.invariant.few)
 
 pub list_own-requires : goal.list_own-requires
-list_own-requires t c = (inside c.loop-at.invariant.0, c.loop-at.invariant.2, c.loop-at.invariant.1)
+list_own-requires t c = (inside c.down.invariant.part, c.down.invariant.few)
 
-pub returns-then-forms-at-eq-OWN : goal.returns-then-forms-at-eq-OWN
-returns-then-forms-at-eq-OWN t c = c.loop-at.invariant.3 _ _ (lists_own c.if-forms-at-eq-OWN.true c.list_own.ensures.0 c.list_own.ensures.1 (c.list_own.ensures.2 ∙ sym c.loop-at.invariant.2))
+pub returns-then-eq-2 : goal.returns-then-eq-2
+returns-then-eq-2 t c = let e : c.form_at-form.result ≡ Own = search rules in let z : number_of Own ≡ get_or (forms c.args.rows.now) c.down.at 0 = rw e at c.form_at-form.ensures.0 in c.down.invariant.rest _ (lists_own (omega (arith, z)) c.list_own.ensures.0 c.list_own.ensures.1)
 
-pub returns : goal.returns
-returns t c = c.loop-at.invariant.3 _ _ (lists_nothing (omega (arith, c.loop-at-test.false, c.if-forms-at-eq-OWN.false)) c.loop-at.invariant.1)
+pub overflow_add-next : goal.overflow_add-next
+overflow_add-next t c = omega (arith, inside c.down.invariant.part)
+
+pub down-preserved-then-eq-3 : goal.down-preserved-then-eq-3
+down-preserved-then-eq-3 t c = let e : c.form_at-form.result ≡ Next = search rules in let z : number_of Next ≡ get_or (forms c.args.rows.now) c.down.at 0 = rw e at c.form_at-form.ensures.0 in record {
+  part = part_below c.down.invariant.part (omega (arith, z)) (λ e. omega (arith, z));
+  few = omega (arith, c.down.invariant.few);
+  later = omega (arith, c.down.invariant.later);
+  rest = λ L l. c.down.invariant.rest L (lists_next (omega (arith, z)) l);
+}
+
+pub without_name-seek-requires : goal.without_name-seek-requires
+without_name-seek-requires t c = let e : c.form_at-form.result ≡ Hidden = search rules in let z : number_of Hidden ≡ get_or (forms c.args.rows.now) c.down.at 0 = rw e at c.form_at-form.ensures.0 in hidden_name c.down.invariant.part (omega (arith, z))
+
+pub down-preserved-then-eq-4 : goal.down-preserved-then-eq-4
+down-preserved-then-eq-4 t c = let e : c.form_at-form.result ≡ Hidden = search rules in let z : number_of Hidden ≡ get_or (forms c.args.rows.now) c.down.at 0 = rw e at c.form_at-form.ensures.0 in record {
+  part = part_below c.down.invariant.part (omega (arith, z)) (λ e. omega (arith, z));
+  few = omega (arith, c.down.invariant.few);
+  later = omega (arith, c.down.invariant.later);
+  rest = λ L l. c.down.invariant.rest L (lists_hidden (omega (arith, z)) c.without_name-seek.ensures l);
+}
+
+pub second_part-second-requires : goal.second_part-second-requires
+second_part-second-requires t c = next_inside c.down.invariant.part (omega (arith, c.form_at-form.ensures.0, deeper c.form_at-form.result (search rules) (search rules)))
+
+pub down-smaller-then-eq-5 : goal.down-smaller-then-eq-5
+down-smaller-then-eq-5 t c = let e : c.form_at-form.result ≡ Second = search rules in let z : number_of Second ≡ get_or (forms c.args.rows.now) c.down.at 0 = rw e at c.form_at-form.ensures.0 in omega (arith, inside c.down.invariant.part, (part_beyond c.down.invariant.part c.second_part-second.ensures (omega (arith, z)) (λ e. omega (arith, z))).1)
+
+pub down-preserved-then-eq-5 : goal.down-preserved-then-eq-5
+down-preserved-then-eq-5 t c = let e : c.form_at-form.result ≡ Second = search rules in let z : number_of Second ≡ get_or (forms c.args.rows.now) c.down.at 0 = rw e at c.form_at-form.ensures.0 in let B = part_beyond c.down.invariant.part c.second_part-second.ensures (omega (arith, z)) (λ e. omega (arith, z)) in record {
+  part = B.0;
+  few = omega (arith, c.down.invariant.few, B.1);
+  later = omega (arith, c.down.invariant.later, B.1);
+  rest = λ L l. c.down.invariant.rest L (lists_second (omega (arith, z)) c.second_part-second.ensures l);
+}
+
+pub shows_none-requires : goal.shows_none-requires
+shows_none-requires t c = let w = one_of_two c.form_at-form.result (search rules) (search rules) (search rules) (search rules) (search rules) in inside (first_of_two c.args.rows.now c.down.invariant.part c.form_at-form.ensures.0 w)
+
+pub down-smaller-then-shows_none : goal.down-smaller-then-shows_none
+down-smaller-then-shows_none t c = let w = one_of_two c.form_at-form.result (search rules) (search rules) (search rules) (search rules) (search rules) in let B = second_of_two c.args.rows.now c.down.invariant.part c.form_at-form.ensures.0 w c.second_part-second.ensures in omega (arith, inside c.down.invariant.part, B.1)
+
+pub down-preserved-then-shows_none : goal.down-preserved-then-shows_none
+down-preserved-then-shows_none t c = let w = one_of_two c.form_at-form.result (search rules) (search rules) (search rules) (search rules) (search rules) in let f = of_two c.args.rows.now c.down.invariant.part c.form_at-form.ensures.0 w in let B = second_of_two c.args.rows.now c.down.invariant.part c.form_at-form.ensures.0 w c.second_part-second.ensures in record {
+  part = B.0;
+  few = omega (arith, c.down.invariant.few, B.1);
+  later = omega (arith, c.down.invariant.later, B.1);
+  rest = λ L l. c.down.invariant.rest L (lists_beyond _ c.second_part-second.ensures f.0 f.1 c.down.invariant.few (c.shows_none.ensures c.if-shows_none.true) l);
+}
+
+pub shows_none-requires-in-down : goal.shows_none-requires-in-down
+shows_none-requires-in-down t c = let w = one_of_two c.form_at-form.result (search rules) (search rules) (search rules) (search rules) (search rules) in omega (arith, inside (first_of_two c.args.rows.now c.down.invariant.part c.form_at-form.ensures.0 w), inside (second_of_two c.args.rows.now c.down.invariant.part c.form_at-form.ensures.0 w c.second_part-second.ensures).0)
+
+pub down-preserved-then-shows_none-2 : goal.down-preserved-then-shows_none-2
+down-preserved-then-shows_none-2 t c = let w = one_of_two c.form_at-form.result (search rules) (search rules) (search rules) (search rules) (search rules) in let f = of_two c.args.rows.now c.down.invariant.part c.form_at-form.ensures.0 w in let D = first_of_two c.args.rows.now c.down.invariant.part c.form_at-form.ensures.0 w in record {
+  part = D;
+  few = omega (arith, c.down.invariant.few);
+  later = omega (arith, c.down.invariant.later);
+  rest = λ L l. c.down.invariant.rest L (lists_before _ c.second_part-second.ensures f.0 f.1 (c.shows_none-in-down.ensures c.if-shows_none-2.true) D l);
+}
+
+pub list-requires : goal.list-requires
+list-requires t c = let w = one_of_two c.form_at-form.result (search rules) (search rules) (search rules) (search rules) (search rules) in (omega (arith, c.decreases, inside c.down.invariant.part, c.down.invariant.later), (first_of_two c.args.rows.now c.down.invariant.part c.form_at-form.ensures.0 w, omega (arith, c.down.invariant.few)))
+
+pub down-smaller : goal.down-smaller
+down-smaller t c = let w = one_of_two c.form_at-form.result (search rules) (search rules) (search rules) (search rules) (search rules) in let B = second_of_two c.args.rows.now c.down.invariant.part c.form_at-form.ensures.0 w c.second_part-second.ensures in omega (arith, inside c.down.invariant.part, B.1)
+
+pub down-preserved : goal.down-preserved
+down-preserved t c = let w = one_of_two c.form_at-form.result (search rules) (search rules) (search rules) (search rules) (search rules) in let f = of_two c.args.rows.now c.down.invariant.part c.form_at-form.ensures.0 w in let D = first_of_two c.args.rows.now c.down.invariant.part c.form_at-form.ensures.0 w in let B = second_of_two c.args.rows.now c.down.invariant.part c.form_at-form.ensures.0 w c.second_part-second.ensures in record {
+  part = B.0;
+  few = omega (arith, c.list.ensures.few D.0 D.1, part_end D.0 D.1, c.second_part-second.ensures);
+  later = omega (arith, c.down.invariant.later, B.1);
+  rest = λ L l. c.down.invariant.rest L (lists_two c.second_part-second.ensures c.list.ensures l f.0 f.1);
+}

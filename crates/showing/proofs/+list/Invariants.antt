@@ -1,19 +1,22 @@
 -- The loop of `list` and why `list` ends: each call begins at a later node.
-use mathlib.Core.Path.{◌≡◌}
-use mathlib.Core.List.{List}
-use Prim.Native.Nat.{ℕ, ◌-◌, ◌<◌, ◌≤◌}
-use lib.ListN.{length}
+use Prim.Native.Nat.{◌-◌, ◌≤◌}
 use Rattle.format.specs.Limits.{node_limit}
 use Rattle.labelset.specs.Set.{Shows}
-use Rattle.offers.specs.Forms.{SomePart}
+use Rattle.index.specs.Whole.{SomePartAt}
+use Rattle.showing.specs.declared.Places.{Places}
 use Rattle.showing.specs.Listed.{Lists}
 use Rattle.showing.proofs.+list.Given as goal
 
-abbrev pub invariant-loop-at : goal.invariant-loop-at
-invariant-loop-at l = SomePart l.forms l.args l.ends l.at × (l.many ≤ l.at) × (length l.row ≡ node_limit) × ((L' : List ℕ) (c' : ℕ) → Lists l.forms l.args l.ends l.sets l.at (Shows l.want) l.row l.many L' c' → Lists l.forms l.args l.ends l.sets l.n (Shows (record { a = l.wa; b = l.wb; c = l.wc; d = l.wd })) l.initial.row l.count L' c') × (l.n ≤ l.at) × (l.at < node_limit)
+abbrev pub invariant-down : goal.invariant-down
+invariant-down l = record {
+  part : SomePartAt l.rows l.at;
+  few : l.places.count ≤ l.at;
+  later : l.n ≤ l.at;
+  rest : (L : Places) → Lists l.rows l.sets l.at (Shows l.seek) l.places L → Lists l.rows l.sets l.n (Shows l.fn.want) l.initial.places L;
+}
 
-abbrev pub decreases-loop-at : goal.decreases-loop-at
-decreases-loop-at l = node_limit - l.at
+abbrev pub decreases-down : goal.decreases-down
+decreases-down l = node_limit - l.at
 
 abbrev pub decreases-list : goal.decreases-list
 decreases-list l = node_limit - l.n

@@ -1,18 +1,17 @@
 -- `take_back` meets its contract: the refusals in their order.
-use Rattle.takeback.proofs.Answers.{key_zero, may_take, not_sound, verdict_refused}
+use native.Mathlib.Omega.{arith}
+use Rattle.std.proofs.lemmas.Result.{err_from_is_err_and}
+use Rattle.operations.specs.TakeBack.{TakeBack}
+use Rattle.takeback.proofs.Answers.{verdict_done, verdict_refused}
 use Rattle.takeback.proofs.take_back.Goals as goal
 
+pub returns-in_err-verdict : goal.returns-in_err-verdict
+returns-in_err-verdict c =
+    let p = err_from_is_err_and c.from_residual.result c.from_residual.ensures.1 in
+    rw (p.1, p.2) (TakeBack.unreadable (verdict_refused _ c.in_err-verdict.ensures))
+
 pub returns-then-k-eq0 : goal.returns-then-k-eq0
-returns-then-k-eq0 c = key_zero c.args.bytes.now c.args.key.0 c.args.row.now c.verdict.result c.verdict.ensures.soundness c.verdict.ensures.caused _ c.in-Is.is c.if-k-eq0.true
+returns-then-k-eq0 c = TakeBack.key_zero (verdict_done c.in_ok-verdict.ensures).1 c.if-k-eq0.true
 
 pub returns-then-verdict-ne0 : goal.returns-then-verdict-ne0
-returns-then-verdict-ne0 c = not_sound c.args.bytes.now c.args.key.0 c.args.row.now c.verdict.result c.verdict.ensures.soundness c.verdict.ensures.caused _ c.in-Is.is c.if-k-eq0.false c.if-verdict-ne0.true
-
-pub take_sound-requires : goal.take_sound-requires
-take_sound-requires c = may_take c.args.bytes.now c.args.key.0 c.args.row.now c.verdict.result c.verdict.ensures.soundness c.verdict.ensures.caused _ c.in-Is.is c.if-k-eq0.false c.if-verdict-ne0.false
-
-pub returns-in-Refused : goal.returns-in-Refused
-returns-in-Refused c = verdict_refused c.args.bytes.now c.args.key.0 c.args.row.now c.verdict.result c.verdict.ensures.soundness c.verdict.ensures.caused _ c.in-Refused.is
-
-pub returns-else-verdict-ne0 : goal.returns-else-verdict-ne0
-returns-else-verdict-ne0 c = c.take_sound.ensures
+returns-then-verdict-ne0 c = let w = verdict_done c.in_ok-verdict.ensures in TakeBack.not_sound w.1 (omega (arith, c.if-k-eq0.false)) w.2 (omega (arith, c.if-verdict-ne0.true))

@@ -1,12 +1,9 @@
 -- `pairing` meets its contract: what `index` and `causes` answer is what it answers.
-use Rattle.verdict.proofs.Calls.{causes_asked, all_noted, thrice}
+use Rattle.verdict.proofs.Calls.{causes_asked, all_noted}
 use Rattle.verdict.proofs.pairing.Goals as goal
 
-pub causes-requires : goal.causes-requires
-causes-requires c = let h = causes_asked c.args.keys.now c.args.actions.now c.args.ends.now c.args.scopes.now c.args.first.now c.args.second.now c.index.new.first c.index.new.second c.requires c.index.result c.index.ensures c.if-index.true in record { each_placed = h.0; ends_len = h.1 }
+pub causes-requires-clause-placed : goal.causes-requires-clause-placed
+causes-requires-clause-placed c = causes_asked c.args.columns.now c.args.rows.now c.index.new.rows c.requires c.index.result c.index.ensures c.if-index.true
 
 pub returns-then-index : goal.returns-then-index
-returns-then-index c = all_noted c.args.keys.now c.args.actions.now c.args.ends.now c.args.scopes.now c.args.first.now c.args.second.now c.index.new.first c.index.new.second c.requires c.index.result c.index.ensures c.if-index.true c.causes.result c.causes.ensures
-
-pub returns : goal.returns
-returns c = thrice c.args.keys.now c.args.actions.now c.args.ends.now c.args.scopes.now c.args.first.now c.args.second.now c.index.new.first c.index.new.second c.requires c.index.result c.index.ensures c.if-index.false
+returns-then-index c = all_noted c.args.columns.now c.args.rows.now c.index.new.rows c.requires c.index.result c.index.ensures c.if-index.true c.causes.result c.causes.ensures

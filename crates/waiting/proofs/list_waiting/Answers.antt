@@ -1,22 +1,25 @@
 -- `list_waiting` meets its contract: filing decides the refusals, and otherwise the keys that links lead to are those that the key waits for.
-use Rattle.filing.proofs.Drawers.{empty}
-use Rattle.waiting.proofs.Answers.{bytes_refused, key_absent, key_stands, to_keys_lem, answered}
+use Rattle.std.proofs.lemmas.Result.{err_from_is_err_and}
+use Rattle.operations.specs.Ask.{WaitingList}
+use Rattle.waiting.proofs.Answers.{to_keys_lem, answered}
 use Rattle.waiting.proofs.list_waiting.Goals as goal
 
-pub file_all-requires : goal.file_all-requires
-file_all-requires c = record { key_nonzero = c.requires; empty = empty }
+pub returns-in_err-file_all : goal.returns-in_err-file_all
+returns-in_err-file_all c =
+    let p = err_from_is_err_and c.from_residual.result c.from_residual.ensures.1 in
+    rw (p.1, p.2) (WaitingList.unreadable c.in_err-file_all.ensures)
 
-pub list_reached-requires : goal.list_reached-requires
-list_reached-requires c = record {
-  filed = (key_stands c.args.bytes.now c.args.key _ c.file_all.result c.file_all.ensures _ c.in-Standing.is).1.0;
-  to_keys = to_keys_lem c.args.bytes.now _ (key_stands c.args.bytes.now c.args.key _ c.file_all.result c.file_all.ensures _ c.in-Standing.is).1;
-}
+pub list_reached-requires-clause-to_keys : goal.list_reached-requires-clause-to_keys
+list_reached-requires-clause-to_keys c =
+    let f = rw c.in-Some.is at c.in_ok-file_all.ensures in
+    to_keys_lem c.args.bytes.now _ f.1
 
-pub returns-in-Refused : goal.returns-in-Refused
-returns-in-Refused c = bytes_refused c.args.bytes.now c.args.key _ c.file_all.result c.file_all.ensures _ c.in-Refused.is c.args.row.now
+pub returns-in-None : goal.returns-in-None
+returns-in-None c =
+    let f = rw c.in-None.is at c.in_ok-file_all.ensures in
+    WaitingList.key_absent f.1.reads c.requires f.2
 
-pub returns-in-Absent : goal.returns-in-Absent
-returns-in-Absent c = key_absent c.args.bytes.now c.args.key _ c.file_all.result c.file_all.ensures c.in-Absent.is c.requires c.args.row.now
-
-pub returns-in-Standing : goal.returns-in-Standing
-returns-in-Standing c = answered c.args.bytes.now _ (key_stands c.args.bytes.now c.args.key _ c.file_all.result c.file_all.ensures _ c.in-Standing.is).1 c.args.key _ _ _ _ c.requires (key_stands c.args.bytes.now c.args.key _ c.file_all.result c.file_all.ensures _ c.in-Standing.is).0 c.list_reached.ensures
+pub returns-in-Some : goal.returns-in-Some
+returns-in-Some c =
+    let f = rw c.in-Some.is at c.in_ok-file_all.ensures in
+    answered c.args.bytes.now _ f.1 c.args.key _ _ _ _ c.requires f.0 c.list_reached.ensures

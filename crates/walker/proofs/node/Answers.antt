@@ -4,6 +4,6 @@ use Rattle.walker.proofs.node.Goals as goal
 
 pub returns : goal.returns
 returns c =
-    let steps = rw c.open.ensures.0 at c.onward.ensures.1 in
-    let seen = rw (c.onward.ensures.0, c.open.ensures.0) at c.show.ensures in
-    shown_after c.args.bytes.now c.open.result.cursor c.onward.result.cursor c.args.n.0 c.show.result steps seen c.open.ensures.1
+    let steps = rw c.open-walker.ensures.0 at c.onward.ensures.1 in
+    let seen = rw (c.onward.ensures.0, c.open-walker.ensures.0) at c.show.ensures in
+    shown_after c.args.bytes.now c.open-walker.result.cursor c.onward.new.self.cursor c.args.n.0 c.show.result steps seen c.open-walker.ensures.1

@@ -1,54 +1,58 @@
 -- `mark` meets its contract: each return is one law of Marking for its form, and each call begins at a later node.
-use mathlib.Core.Path.{refl, ◌∙◌}
+use Rattle.std.proofs.Common.{rules}
+use mathlib.Core.Path.{◌≡◌, refl, ◌∙◌}
 use native.Mathlib.Omega.{arith}
-use Rattle.offers.proofs.Forms.{form, two_parts, inside, part_below, part_beyond, hidden_name}
-use Rattle.wanted.proofs.Marking.{marked_nothing, marked_own, marked_next, marked_second, marked_hidden, marked_two, marks_noted, read_back, marks_passed}
+use lib.ListN.{get_or}
+use Rattle.offers.proofs.Forms.{form, two_parts, inside, next_inside, part_below, part_beyond, hidden_name}
+use Rattle.index.specs.declared.Form.TheVariants.{Nothing, Own, Next, Second, Hidden}
+use Rattle.index.specs.Whole.{number_of, forms}
+use Rattle.index.proofs.FormNumbers.{deeper, one_of_two, of_two, first_of_two, second_of_two}
+use Rattle.wanted.proofs.Marking.{marked_nothing, marked_own, marked_next, marked_second, marked_hidden, marked_two, marks_noted, marks_passed}
 use Rattle.wanted.proofs.+mark.Goals as goal
 
 pub form_at-form-requires : goal.form_at-form-requires
-form_at-form-requires t c = (inside c.requires.some_part, c.requires.room.0.forms)
+form_at-form-requires t c = inside c.requires.some_part
 
-pub returns-then-form-eq-NOTHING : goal.returns-then-form-eq-NOTHING
-returns-then-form-eq-NOTHING t c = marks_noted (λ t P. marked_nothing (rw (← c.form_at-form.ensures.0, c.if-form-eq-NOTHING.true) at (form c.args.n t P)) c.empty.ensures) (λ z. z) refl refl c.show.ensures
+pub returns-then-eq : goal.returns-then-eq
+returns-then-eq t c = let e : c.form_at-form.result ≡ Nothing = search rules in let z : number_of Nothing ≡ get_or (forms c.args.rows.now) c.args.n 0 = rw e at c.form_at-form.ensures.0 in marks_noted (λ t P. marked_nothing (rw (← z) at (form c.args.n t P)) c.empty.ensures) (λ z. z) refl refl c.show.ensures
 
-pub returns-then-form-eq-OWN : goal.returns-then-form-eq-OWN
-returns-then-form-eq-OWN t c = marks_noted (λ t P. marked_own (rw (← c.form_at-form.ensures.0, c.if-form-eq-OWN.true) at (form c.args.n t P)) c.only.ensures c.mark_own.ensures) (λ z. z) c.mark_own.ensures.room refl c.show-then-form-eq-OWN.ensures
+pub returns-then-eq-2 : goal.returns-then-eq-2
+returns-then-eq-2 t c = let e : c.form_at-form.result ≡ Own = search rules in let z : number_of Own ≡ get_or (forms c.args.rows.now) c.args.n 0 = rw e at c.form_at-form.ensures.0 in marks_noted (λ t P. marked_own (rw (← z) at (form c.args.n t P)) c.only.ensures c.mark_own.ensures) (λ z. z) c.mark_own.ensures.room refl c.show-then-eq-2.ensures
 
 pub mark-requires : goal.mark-requires
-mark-requires t c = (omega (arith, c.decreases, inside c.requires.some_part), (part_below c.requires.some_part (omega (arith, c.form_at-form.ensures.0, c.if-form-eq-NEXT.true)) (λ e. omega (arith, c.form_at-form.ensures.0, c.if-form-eq-NEXT.true)), c.requires.room))
+mark-requires t c = let e : c.form_at-form.result ≡ Next = search rules in let z : number_of Next ≡ get_or (forms c.args.rows.now) c.args.n 0 = rw e at c.form_at-form.ensures.0 in (omega (arith, c.decreases, inside c.requires.some_part), (part_below c.requires.some_part (omega (arith, z)) (λ e. omega (arith, z)), c.requires.room))
 
-pub returns-then-form-eq-NEXT : goal.returns-then-form-eq-NEXT
-returns-then-form-eq-NEXT t c = marks_passed (λ t P. marked_next (rw (← c.form_at-form.ensures.0, c.if-form-eq-NEXT.true) at (form c.args.n t P)) c.mark.ensures.part) c.mark.ensures
+pub returns-then-eq-3 : goal.returns-then-eq-3
+returns-then-eq-3 t c = let e : c.form_at-form.result ≡ Next = search rules in let z : number_of Next ≡ get_or (forms c.args.rows.now) c.args.n 0 = rw e at c.form_at-form.ensures.0 in marks_passed (λ t P. marked_next (rw (← z) at (form c.args.n t P)) c.mark.ensures.part) c.mark.ensures
 
-pub without_name-less-requires : goal.without_name-less-requires
-without_name-less-requires t c = hidden_name c.requires.some_part (omega (arith, c.form_at-form.ensures.0, c.if-form-eq-HIDDEN.true))
+pub without_name-below-requires : goal.without_name-below-requires
+without_name-below-requires t c = let e : c.form_at-form.result ≡ Hidden = search rules in let z : number_of Hidden ≡ get_or (forms c.args.rows.now) c.args.n 0 = rw e at c.form_at-form.ensures.0 in hidden_name c.requires.some_part (omega (arith, z))
 
-pub mark-requires-then-form-eq-HIDDEN : goal.mark-requires-then-form-eq-HIDDEN
-mark-requires-then-form-eq-HIDDEN t c = (omega (arith, c.decreases, inside c.requires.some_part), (part_below c.requires.some_part (omega (arith, c.form_at-form.ensures.0, c.if-form-eq-HIDDEN.true)) (λ e. omega (arith, c.form_at-form.ensures.0, c.if-form-eq-HIDDEN.true)), c.requires.room))
+pub mark-requires-then-eq-4 : goal.mark-requires-then-eq-4
+mark-requires-then-eq-4 t c = let e : c.form_at-form.result ≡ Hidden = search rules in let z : number_of Hidden ≡ get_or (forms c.args.rows.now) c.args.n 0 = rw e at c.form_at-form.ensures.0 in (omega (arith, c.decreases, inside c.requires.some_part), (part_below c.requires.some_part (omega (arith, z)) (λ e. omega (arith, z)), c.requires.room))
 
 pub without_name-requires : goal.without_name-requires
-without_name-requires t c = hidden_name c.requires.some_part (omega (arith, c.form_at-form.ensures.0, c.if-form-eq-HIDDEN.true))
+without_name-requires t c = let e : c.form_at-form.result ≡ Hidden = search rules in let z : number_of Hidden ≡ get_or (forms c.args.rows.now) c.args.n 0 = rw e at c.form_at-form.ensures.0 in hidden_name c.requires.some_part (omega (arith, z))
 
-pub returns-then-form-eq-HIDDEN : goal.returns-then-form-eq-HIDDEN
-returns-then-form-eq-HIDDEN t c = marks_noted (λ t P. marked_hidden (rw (← c.form_at-form.ensures.0, c.if-form-eq-HIDDEN.true) at (form c.args.n t P)) c.without_name-less.ensures (read_back c.set_at.ensures.0 c.mark-then-form-eq-HIDDEN.ensures) c.without_name.ensures) c.mark-then-form-eq-HIDDEN.ensures.covers c.mark-then-form-eq-HIDDEN.ensures.room c.mark-then-form-eq-HIDDEN.ensures.long c.show-then-form-eq-HIDDEN.ensures
+pub returns-then-eq-4 : goal.returns-then-eq-4
+returns-then-eq-4 t c = let e : c.form_at-form.result ≡ Hidden = search rules in let z : number_of Hidden ≡ get_or (forms c.args.rows.now) c.args.n 0 = rw e at c.form_at-form.ensures.0 in marks_noted (λ t P. marked_hidden (rw (← z) at (form c.args.n t P)) c.without_name-below.ensures c.mark-then-eq-4.ensures.part c.without_name.ensures) c.mark-then-eq-4.ensures.covers c.mark-then-eq-4.ensures.room c.mark-then-eq-4.ensures.long c.show-then-eq-4.ensures
 
 pub second_part-second-requires : goal.second_part-second-requires
-second_part-second-requires t c = let B = part_beyond c.requires.some_part refl (omega (arith, c.form_at-form.ensures.0, c.if-form-eq-NOTHING.false, c.if-form-eq-OWN.false, c.if-form-eq-NEXT.false)) (λ e. c.if-form-eq-HIDDEN.false (omega (arith, c.form_at-form.ensures.0))) in (omega (arith, B.1, inside B.0), c.requires.room.0.ends)
+second_part-second-requires t c = next_inside c.requires.some_part (omega (arith, c.form_at-form.ensures.0, deeper c.form_at-form.result (search rules) (search rules)))
 
-pub mark-requires-then-form-eq-SECOND : goal.mark-requires-then-form-eq-SECOND
-mark-requires-then-form-eq-SECOND t c = let B = part_beyond c.requires.some_part c.second_part-second.ensures (omega (arith, c.form_at-form.ensures.0, c.if-form-eq-NOTHING.false, c.if-form-eq-OWN.false, c.if-form-eq-NEXT.false)) (λ e. c.if-form-eq-HIDDEN.false (omega (arith, c.form_at-form.ensures.0))) in (omega (arith, c.decreases, B.1, inside B.0), (B.0, c.requires.room))
+pub mark-requires-then-eq-5 : goal.mark-requires-then-eq-5
+mark-requires-then-eq-5 t c = let e : c.form_at-form.result ≡ Second = search rules in let z : number_of Second ≡ get_or (forms c.args.rows.now) c.args.n 0 = rw e at c.form_at-form.ensures.0 in let B = part_beyond c.requires.some_part c.second_part-second.ensures (omega (arith, z)) (λ e. omega (arith, z)) in (omega (arith, c.decreases, B.1, inside B.0), (B.0, c.requires.room))
 
-pub returns-then-form-eq-SECOND : goal.returns-then-form-eq-SECOND
-returns-then-form-eq-SECOND t c = marks_passed (λ t P. marked_second (rw (← c.form_at-form.ensures.0, c.if-form-eq-SECOND.true) at (form c.args.n t P)) c.second_part-second.ensures c.mark-then-form-eq-SECOND.ensures.part) c.mark-then-form-eq-SECOND.ensures
+pub returns-then-eq-5 : goal.returns-then-eq-5
+returns-then-eq-5 t c = let e : c.form_at-form.result ≡ Second = search rules in let z : number_of Second ≡ get_or (forms c.args.rows.now) c.args.n 0 = rw e at c.form_at-form.ensures.0 in marks_passed (λ t P. marked_second (rw (← z) at (form c.args.n t P)) c.second_part-second.ensures c.mark-then-eq-5.ensures.part) c.mark-then-eq-5.ensures
 
 pub mark-requires-2 : goal.mark-requires-2
-mark-requires-2 t c = let B = part_beyond c.requires.some_part c.second_part-second.ensures (omega (arith, c.form_at-form.ensures.0, c.if-form-eq-NOTHING.false, c.if-form-eq-OWN.false, c.if-form-eq-NEXT.false)) (λ e. c.if-form-eq-HIDDEN.false (omega (arith, c.form_at-form.ensures.0))) in (omega (arith, c.decreases, B.1, inside B.0), (B.0, c.requires.room))
+mark-requires-2 t c = let w = one_of_two c.form_at-form.result (search rules) (search rules) (search rules) (search rules) (search rules) in let B = second_of_two c.args.rows.now c.requires.some_part c.form_at-form.ensures.0 w c.second_part-second.ensures in (omega (arith, c.decreases, B.1, inside B.0), (B.0, c.requires.room))
 
 pub mark-requires-3 : goal.mark-requires-3
-mark-requires-3 t c = (omega (arith, c.decreases, inside c.requires.some_part), (part_below c.requires.some_part (omega (arith, c.form_at-form.ensures.0, c.if-form-eq-NOTHING.false, c.if-form-eq-OWN.false)) (λ e. c.if-form-eq-SECOND.false (omega (arith, c.form_at-form.ensures.0))), (c.requires.room.0, c.mark-2.ensures.room ∙ c.requires.room.1, omega (arith, c.mark-2.ensures.long, c.requires.room.2))))
-
-pub show-requires-2 : goal.show-requires-2
-show-requires-2 t c = (c.form_at-form.ensures.1, c.set_at-2.ensures.1)
+mark-requires-3 t c = let w = one_of_two c.form_at-form.result (search rules) (search rules) (search rules) (search rules) (search rules) in (omega (arith, c.decreases, inside c.requires.some_part), (first_of_two c.args.rows.now c.requires.some_part c.form_at-form.ensures.0 w, omega (arith, c.mark-2.ensures.long, c.requires.room)))
 
 pub returns : goal.returns
-returns t c = marks_noted (λ t P. marked_two _ c.second_part-second.ensures (read_back c.set_at-right.ensures.0 c.mark-2.ensures) c.asked-more.ensures (read_back c.set_at-2.ensures.0 c.mark-3.ensures) c.joined.ensures (two_parts (rw (← c.form_at-form.ensures.0) at (form c.args.n t P)) (omega (arith, c.if-form-eq-NOTHING.false, c.if-form-eq-OWN.false, c.if-form-eq-NEXT.false, c.if-form-eq-SECOND.false)) c.if-form-eq-HIDDEN.false) refl) (λ z. c.mark-3.ensures.covers (c.mark-2.ensures.covers z)) (c.mark-3.ensures.room ∙ c.mark-2.ensures.room) (c.mark-3.ensures.long ∙ c.mark-2.ensures.long) c.show-2.ensures
+returns t c = let w = one_of_two c.form_at-form.result (search rules) (search rules) (search rules) (search rules) (search rules) in let f = of_two c.args.rows.now c.requires.some_part c.form_at-form.ensures.0 w in
+    marks_noted (λ t P. marked_two _ c.second_part-second.ensures c.mark-2.ensures.part c.asked-below.ensures c.mark-3.ensures.part c.joined.ensures (two_parts (form c.args.n t P) f.0 f.1) c.form_at-form.ensures.0)
+    (λ z. c.mark-3.ensures.covers (c.mark-2.ensures.covers z)) (c.mark-3.ensures.room ∙ c.mark-2.ensures.room) (c.mark-3.ensures.long ∙ c.mark-2.ensures.long) c.show-2.ensures

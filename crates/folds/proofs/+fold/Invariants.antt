@@ -1,4 +1,0 @@
-use Rattle.folds.proofs.+fold.Given as goal
-
-abbrev pub decreases-fold : goal.decreases-fold
-decreases-fold l = l.deep

@@ -1,0 +1,67 @@
+-- Forms against their numbers, and a node of two parts.
+use mathlib.Core.Path.{◌≡◌, refl, sym, ap, ◌∙◌}
+use mathlib.Core.Logic.{◌⊎◌, inl, inr, ⊎_elim, ◌≢◌}
+use Prim.Native.Nat.{ℕ, zero, suc, ◌+◌, ◌<◌, ◌≤◌}
+use native.Mathlib.Omega.{arith}
+use lib.ListN.{get_or}
+use Rattle.ccsk.specs.Term.{Node}
+use Rattle.offers.proofs.Forms.{part_below, part_beyond}
+use Rattle.index.specs.declared.Rows.{Rows}
+use Rattle.index.specs.declared.Form.{Form}
+use Rattle.index.specs.declared.Form.TheVariants.{Nothing, Own, Next, Second, Either, Both, Hidden}
+use Rattle.index.specs.Whole.{number_of, forms, SomePartAt}
+
+-- the form with a number
+unfoldable with_number : ℕ → Form
+with_number zero = Nothing
+with_number (suc zero) = Own
+with_number (suc (suc zero)) = Next
+with_number (suc (suc (suc zero))) = Second
+with_number (suc (suc (suc (suc zero)))) = Either
+with_number (suc (suc (suc (suc (suc zero))))) = Both
+with_number (suc (suc (suc (suc (suc (suc n)))))) = Hidden
+
+with_number_of : (f : Form) → with_number (number_of f) ≡ f
+unfolding with_number
+with_number_of Nothing = refl
+with_number_of Own = refl
+with_number_of Next = refl
+with_number_of Second = refl
+with_number_of Either = refl
+with_number_of Both = refl
+with_number_of Hidden = refl
+
+-- forms with the same number are the same
+pub form_once : (f g : Form) → number_of f ≡ number_of g → f ≡ g
+form_once f g e = sym (with_number_of f) ∙ ap with_number e ∙ with_number_of g
+
+-- every form but these two has a number from 2 on
+pub deeper : (f : Form) → f ≢ Nothing → f ≢ Own → 2 ≤ number_of f
+deeper Nothing a b = absurd (a refl)
+deeper Own a b = absurd (b refl)
+deeper Next a b = omega arith
+deeper Second a b = omega arith
+deeper Either a b = omega arith
+deeper Both a b = omega arith
+deeper Hidden a b = omega arith
+
+-- a form that is none of five is one of the other two
+pub one_of_two : (f : Form) → f ≢ Nothing → f ≢ Own → f ≢ Next → f ≢ Hidden → f ≢ Second → (f ≡ Either) ⊎ (f ≡ Both)
+one_of_two Nothing a b c d e = absurd (a refl)
+one_of_two Own a b c d e = absurd (b refl)
+one_of_two Next a b c d e = absurd (c refl)
+one_of_two Second a b c d e = absurd (e refl)
+one_of_two Either a b c d e = inl refl
+one_of_two Both a b c d e = inr refl
+one_of_two Hidden a b c d e = absurd (d refl)
+
+-- A node of two parts that both step: its number, and where the parts begin.
+module _ (R : Rows) {n : Node} (S : SomePartAt R n) {f : Form} (e : number_of f ≡ get_or (forms R) n 0) (w : (f ≡ Either) ⊎ (f ≡ Both)) where
+  pub of_two : (3 < get_or (forms R) n 0) × (get_or (forms R) n 0 ≢ 6)
+  of_two = rw (← e) (⊎_elim (λ z. rw z (omega arith, λ q. omega arith)) (λ z. rw z (omega arith, λ q. omega arith)) w)
+
+  pub first_of_two : SomePartAt R (n + 1)
+  first_of_two = part_below S (omega (arith, of_two.0)) (λ q. omega (arith, of_two.0))
+
+  pub second_of_two : {k : Node} → k ≡ get_or R.ends (n + 1) 0 → SomePartAt R k × (n < k)
+  second_of_two d = part_beyond S d (omega (arith, of_two.0)) of_two.1

@@ -1,2 +1,0 @@
--- Laws that the program's proofs cite.
-pub mod Undos

@@ -1,2 +1,0 @@
--- The answers of forward step and undo.
-pub mod Plan
