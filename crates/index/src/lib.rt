@@ -2,7 +2,7 @@
 // them: the record is read from the first node to the last, then forms and ends are settled from the last node to the first.
 #![tactic(auto)]
 
-ghost use Rattle.std.specs.Prelude.{◌≡◌, ◌+◌, ◌<◌, length, get_or};
+ghost use Rattle.std.specs.Prelude.{◌≡◌, ◌+◌, ◌<◌, length, get_or, replicate};
 ghost use Rattle.format.specs.Limits.{node_limit};
 ghost use Rattle.index.specs.Lines.{Notes, keyless, own_form, choice_form, form_of, holds_of, end_of, Notable, Settles};
 ghost use Rattle.index.specs.Whole.{number_of, forms, Indexes};
@@ -129,7 +129,9 @@ fn byte_after(bytes: &[u8], at: usize) -> u8
 
 impl Rows {
     // Rows without a line yet.
-    pub fn new() -> Rows {
+    pub fn new() -> Rows
+        ensures { (result.forms ≡ replicate node_limit Form.Nothing) × (result.args ≡ replicate node_limit 0) × (result.ends ≡ replicate node_limit 0) }
+    {
         Rows {
             forms: [Form::Nothing; NODES],
             args: [0; NODES],

@@ -1,7 +1,17 @@
 -- The columns that a record is laid out in, and the table of nearest restrictions.
-use Rattle.std.specs.Prelude.{◌≡◌, List, [], ◌∷◌, ◌++◌, ℕ, ◌%◌, take, set, get_or}
+use Rattle.std.specs.Prelude.{◌≡◌, List, [], ◌∷◌, ◌++◌, ℕ, ◌%◌, take, set, get_or, replicate}
+use Rattle.format.specs.Limits.{node_limit}
 use Rattle.causes.specs.Entry.{Entry}
 use Rattle.lay.specs.declared.Sheet.{Sheet}
+
+-- nothing is written: 0 in every place of the columns and of the table, as for no key, no scope and nothing right above
+pub record Unwritten (x : Sheet) : Type 0 where
+  pub keys : x.keys ≡ replicate node_limit 0
+  pub actions : x.actions ≡ replicate node_limit 0
+  pub ends : x.ends ≡ replicate node_limit 0
+  pub scopes : x.scopes ≡ replicate node_limit 0
+  pub ups : x.ups ≡ replicate node_limit 0
+  pub nearest : x.nearest ≡ replicate 128 0
 
 -- row i is written but for its end: its key, its action with the scope that the table tells, and the key right above it
 abbrev pub noted : Sheet → ℕ → ℕ → ℕ → ℕ → Sheet

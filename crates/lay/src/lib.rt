@@ -6,7 +6,7 @@ ghost use Rattle.std.specs.Prelude.{◌≡◌, ◌+◌, ◌<◌};
 ghost use Rattle.reader.specs.Kind.{body_of};
 ghost use Rattle.format.specs.Limits.{node_limit};
 ghost use Rattle.keys.specs.Gather.{Readable};
-ghost use Rattle.lay.specs.Sheet.{noted};
+ghost use Rattle.lay.specs.Sheet.{Unwritten, noted};
 ghost use Rattle.lay.specs.Lay.{child, Ready, Lays, LaidOut};
 
 use keys::key_at;
@@ -45,8 +45,10 @@ pub struct Sheet {
 }
 
 impl Sheet {
-    // Columns to be written.
-    pub fn new() -> Sheet {
+    // A sheet on which nothing is written yet.
+    pub fn new() -> Sheet
+        ensures { Unwritten result }
+    {
         Sheet {
             keys: [0; NODES],
             actions: [0; NODES],
