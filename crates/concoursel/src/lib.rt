@@ -23,7 +23,7 @@ pub extern "C" fn concoursel_node(record: &[u8], n: u16) -> u64
     ensures { PackedNode (ShownNode «record».now n) result }
 {
     match reader::read(record) {
-        Err(r) => packed_refusal(r),
+        Err(r) => packed_refusal(u8::from(r)),
         Ok(_) => packed_node(record, walker::node(record, Node(n))),
     }
 }

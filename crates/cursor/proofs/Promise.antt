@@ -112,7 +112,7 @@ module _ (s : List ℕ) (c : Cursor) where
         reads = C.reads;
         limit = C.limit;
         within = omega arith;
-        fine = M.fine ∙ C.fine;
+        fine = M.fine;
         number = omega (arith, M.node, C.number);
         waiting = (f t n C).0;
         ahead = rw (M.place, M.stack, M.height, ← add-one n, ← drop-drop 1 n (preorder 1 t)) (f t n C).1;

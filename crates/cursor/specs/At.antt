@@ -71,9 +71,9 @@ abbrev pub DueAt : List ℕ → Cursor → Option Head → Type 0
 DueAt s c None = Idle s c
 DueAt s c (Some h) = Ready s c (byte_of h.kind) h.children h.next
 
--- what `stand` makes of the cursor c: the same, at the next node, with so many nodes due
+-- what `stand` makes of the cursor c: the same with no refusal, at the next node, with so many nodes due
 pub record Made (c : Cursor) (at many : ℕ) (r : Cursor) : Type 0 where
-  pub fine : r.refusal ≡ c.refusal
+  pub fine : r.refusal ≡ None
   pub place : r.at ≡ at
   pub node : r.node.0 ≡ c.node.0 + 1
   pub stack : r.due ≡ c.due

@@ -89,6 +89,7 @@ impl Cursor {
         requires { self.old.node.0 < 4096 }
         ensures { Made self.old at many self.new }
     {
+        self.refusal = None;
         self.at = at;
         self.node = Node(self.node.0 + 1);
         self.many = many;

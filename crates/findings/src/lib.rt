@@ -1,9 +1,9 @@
 // What one pass finds of a part of a record, and how the moves of its parts combine at each node.
 #![tactic(auto)]
 
-ghost use Rattle.std.specs.Prelude.{◌≡◌, ℕ, min, List, ◌∷◌, ◌++◌, length};
+ghost use Rattle.std.specs.Prelude.{◌≡◌, ℕ, List, [], ◌∷◌, ◌++◌};
 ghost use Rattle.moves.specs.Move.{move_over_prefix, move_over_choice, move_over_parallel, move_over_restriction};
-ghost use Rattle.findings.specs.Seen.{move_of, label_of, key_asked, choice_of, may_of, places_of};
+ghost use Rattle.findings.specs.Seen.{move_of, label_of, key_asked, choice_of, may_of, spots_of, places_of};
 
 use shared::{NOT_DONE, Name, TAU, complementary, is_on};
 
@@ -90,7 +90,8 @@ impl Move {
         }
     }
 
-    // The move of a parallel with this move on its left.
+    // The move of a parallel with this move on its left. Laid into the pass, as are the functions above.
+    #[inline(always)]
     pub fn over_parallel(self, right: Move) -> Move
         ensures { move_of result ≡ move_over_parallel (move_of self) (move_of right) }
     {
@@ -122,40 +123,63 @@ pub enum Places {
     More(u16, u16, u16),
 }
 
-impl Places {
-    // How many they are.
-    fn many(self) -> u16
-        ensures { (l : List ℕ) → self ≡ places_of l → result ≡ min (length l) 65535 }
+// The same in three short numbers: how many there are, and the first two, 0 where there is none. A pass hands this back at every level, so
+// it has no room for a number beside it that tells the case.
+#[derive(Clone, Copy)]
+pub struct Spots {
+    pub many: u16,
+    pub first: u16,
+    pub second: u16,
+}
+
+impl Spots {
+    // No place.
+    pub fn none() -> Spots
+        ensures { result ≡ spots_of [] }
     {
-        match self {
-            Places::Zero => 0,
-            Places::One(_) => 1,
-            Places::Two(_, _) => 2,
-            Places::More(n, _, _) => n,
+        Spots {
+            many: 0,
+            first: 0,
+            second: 0,
         }
     }
 
     // One place more, in front of these.
-    pub fn after(self, at: u16) -> Places
-        ensures { (l : List ℕ) → self ≡ places_of l → result ≡ places_of (at ∷ l) }
+    pub fn after(self, at: u16) -> Spots
+        ensures { (l : List ℕ) → self ≡ spots_of l → result ≡ spots_of (at ∷ l) }
     {
-        match self {
-            Places::Zero => Places::One(at),
-            Places::One(i) => Places::Two(at, i),
-            Places::Two(i, _) => Places::More(3, at, i),
-            Places::More(n, i, _) => Places::More(n.saturating_add(1), at, i),
+        Spots {
+            many: self.many.saturating_add(1),
+            first: at,
+            second: self.first,
         }
     }
 
     // These places, and others behind them.
-    pub fn join(self, others: Places) -> Places
-        ensures { (l k : List ℕ) → self ≡ places_of l → others ≡ places_of k → result ≡ places_of (l ++ k) }
+    pub fn join(self, others: Spots) -> Spots
+        ensures { (l k : List ℕ) → self ≡ spots_of l → others ≡ spots_of k → result ≡ spots_of (l ++ k) }
     {
-        match self {
-            Places::Zero => others,
-            Places::One(i) => others.after(i),
-            Places::Two(i, j) => others.after(j).after(i),
-            Places::More(n, i, j) => Places::More(n.saturating_add(others.many()), i, j),
+        let many = self.many.saturating_add(others.many);
+        match self.many {
+            0 => others,
+            1 => Spots {
+                many,
+                first: self.first,
+                second: others.first,
+            },
+            _ => Spots { many, ..self },
+        }
+    }
+
+    // The places, by cases.
+    pub fn places(self) -> Places
+        ensures { (l : List ℕ) → self ≡ spots_of l → result ≡ places_of l }
+    {
+        match self.many {
+            0 => Places::Zero,
+            1 => Places::One(self.first),
+            2 => Places::Two(self.first, self.second),
+            n => Places::More(n, self.first, self.second),
         }
     }
 }
@@ -166,6 +190,6 @@ impl Places {
 pub struct Seen {
     pub any: bool,
     pub stands: bool,
-    pub places: Places,
+    pub spots: Spots,
     pub moved: Move,
 }

@@ -12,13 +12,11 @@ ghost use Rattle.keys.specs.Erase.{Erased};
 ghost use Rattle.keys.specs.Gather.{Within, end_at, Readable, Holds, Marked, Scanned, Gathered, cleared_at, Cleared};
 
 use keyset::KeySet;
-use reader::{Kind, kind_at};
+use reader::{Kind, PREFIX, RESTRICTION};
 use shared::{NOT_DONE, Refusal, key_of};
 
-// The byte of a prefix. Some functions here ask that it is whole, and nothing of other bytes, which need not be kinds.
-const PREFIX: u8 = Kind::Prefix as u8;
-
-// The key that the node at `at` holds; 0 if it is no prefix. A helper between crates: the caller has seen that the node's bytes are there.
+// The key that the node at `at` holds; 0 if it is no prefix. A helper between crates: the caller has seen that a prefix's bytes are there.
+// Nothing is asked of other bytes, which need not be kinds.
 pub fn key_at(bytes: &[u8], at: usize) -> u16
     requires { (at < length bytes.now) × (get_or bytes.now at 0 ≡ 1 → at + 3 < length bytes.now) }
     ensures { result ≡ key_at bytes.now at }
@@ -38,24 +36,21 @@ pub struct Keyed {
 }
 
 // The key of the node at `at`, and its end. A helper between crates: the caller has seen that the node's bytes are there. A prefix has a
-// branch of its own, so that the place of the next node waits for no byte.
+// branch of its own; of the others a test gives the length as a number, with no branch. A match on the kind is a jump, and slower here.
 pub fn keyed_at(bytes: &[u8], at: usize) -> Keyed
     requires { Within bytes.now at }
     ensures { (result.key ≡ key_at bytes.now at) × (result.next ≡ end_at bytes.now at) }
 {
-    match kind_at(bytes, at) {
-        Kind::Prefix => Keyed {
+    let byte = bytes[at];
+    if byte == PREFIX {
+        return Keyed {
             key: key_at(bytes, at),
             next: at + 1 + Kind::Prefix.body(),
-        },
-        Kind::Restriction => Keyed {
-            key: NOT_DONE,
-            next: at + 1 + Kind::Restriction.body(),
-        },
-        _ => Keyed {
-            key: NOT_DONE,
-            next: at + 1,
-        },
+        };
+    }
+    Keyed {
+        key: NOT_DONE,
+        next: at + (1 + usize::from(byte == RESTRICTION) * Kind::Restriction.body()),
     }
 }
 

@@ -59,11 +59,11 @@ module _ (s : List ℕ) (here : Place) (w : Ready s here.at here.node here.row) 
         pub marked_ready : Ready s p.at p.node (p.row + 1)
         marked_ready = subst (λ (v : Place). Ready s v.at v.node (v.row + 1)) (sym e) (ready_marked s here.at here.node here.row (byte_of k) hk (body_of k) refl key q ek z w)
 
-        module _ (x' : Sheet) (f : x' ≡ noted x p.row key (get_or s (here.at + 1) 0) up) (r : Place) (y : Sheet) (L : Lays s p.at p.node (p.row + 1) key x' r y) where
-          -- the rows are few
-          pub few : r.row ≤ node_limit
-          few = laid_end s p.at p.node (p.row + 1) key x' r y marked_ready L
+        -- the rows are few, whatever key is above
+        pub few : (above : Key) (x' : Sheet) (r : Place) (y : Sheet) → Lays s p.at p.node (p.row + 1) above x' r y → r.row ≤ node_limit
+        few above x' r y L = laid_end s p.at p.node (p.row + 1) above x' r y marked_ready L
 
+        module _ (x' : Sheet) (f : x' ≡ noted x p.row key (get_or s (here.at + 1) 0) up) (r : Place) (y : Sheet) (L : Lays s p.at p.node (p.row + 1) key x' r y) where
           pub laid_marked : Sized x → Lays s here.at here.node here.row up x r (ended y p.row r.row)
           laid_marked W = subst (λ (v : Place). Lays s v.at v.node (v.row + 1) key (noted x v.row key (get_or s (here.at + 1) 0) up) r y → Lays s here.at here.node here.row up x r (ended y v.row r.row)) (sym e)
               (lays_marked s here.at here.node here.row (byte_of k) hk (body_of k) refl up x key ek q z W (get_or s (here.at + 1) 0) refl r y)

@@ -10,8 +10,8 @@ ghost use Rattle.lay.specs.Sheet.{Unwritten, noted};
 ghost use Rattle.lay.specs.Lay.{child, Ready, Lays, LaidOut};
 
 use keys::key_at;
-use reader::{Kind, NODES, kind_at};
-use shared::{NAMES, slot};
+use reader::{Kind, NIL, NODES, PREFIX, RESTRICTION, kind_at};
+use shared::{NAMES, Name, slot, slot_of};
 
 // The place of a term: where it begins, the number of its root, and the row of its first key.
 #[derive(Clone, Copy)]
@@ -66,45 +66,46 @@ impl Sheet {
     {
         self.keys[row] = key;
         self.actions[row] = action;
-        self.scopes[row] = self.nearest[slot(action)];
+        self.scopes[row] = self.nearest[slot_of(action)];
         self.ups[row] = up;
     }
 
     // Lays out the term that stands at a place, below the key `up`, 0 for none, and goes on to the place of what follows it. Each kind with a
-    // body has a branch of its own, so that the place of the child waits for no table.
+    // body has a branch of its own, so that the place of the child waits for no table. The tests are of the byte: a match on the kind is a jump.
     fn lay(&mut self, s: &[u8], place: &mut Place, up: u16)
         requires { Ready s.now place.old.at place.old.node place.old.row }
         ensures { Lays s.now place.old.at place.old.node place.old.row up self.old place.new self.new }
     {
         let at = place.at;
-        match kind_at(s, at) {
-            Kind::Prefix => {
-                place.enter(Kind::Prefix);
-                let key = key_at(s, at);
-                if key == 0 {
-                    return self.lay(s, place, up);
-                }
-                let row = place.row;
-                self.note(row, key, s[at + 1], up);
-                place.row += 1;
-                self.lay(s, place, key);
-                self.ends[row] = place.row as u16;
+        let byte = s[at];
+        if byte == PREFIX {
+            place.enter(Kind::Prefix);
+            let key = key_at(s, at);
+            if key == 0 {
+                return self.lay(s, place, up);
             }
-            Kind::Restriction => {
-                place.enter(Kind::Restriction);
-                let a = slot(s[at + 1]);
-                let outer = self.nearest[a];
-                self.nearest[a] = place.node as u16;
-                self.lay(s, place, up);
-                self.nearest[a] = outer;
-            }
-            Kind::Nil => place.enter(Kind::Nil),
-            kind => {
-                place.enter(kind);
-                self.lay(s, place, up);
-                self.lay(s, place, up);
-            }
+            let row = place.row;
+            self.note(row, key, s[at + 1], up);
+            place.row += 1;
+            self.lay(s, place, key);
+            self.ends[row] = place.row as u16;
+            return;
         }
+        if byte == RESTRICTION {
+            place.enter(Kind::Restriction);
+            let a = slot(Name(s[at + 1]));
+            let outer = self.nearest[a];
+            self.nearest[a] = place.node as u16;
+            self.lay(s, place, up);
+            self.nearest[a] = outer;
+            return;
+        }
+        if byte == NIL {
+            return place.enter(Kind::Nil);
+        }
+        place.enter(kind_at(s, at));
+        self.lay(s, place, up);
+        self.lay(s, place, up);
     }
 
     // Lays out a readable record, and answers how many rows it has.

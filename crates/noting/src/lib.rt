@@ -7,7 +7,7 @@ ghost use Rattle.reader.specs.Kind.{byte_of};
 
 use lasts::Last;
 use reader::{Kind, NODES};
-use shared::{NAMES, NOT_DONE, key_of, slot};
+use shared::{NAMES, NOT_DONE, Name, key_of, slot, slot_of};
 
 // What a pass over a record has noted so far: the keys and the lasts in front of two rows, and for each name its scope.
 #[derive(Drop)]
@@ -63,7 +63,7 @@ impl Notes {
             }
         }
         if kind == Kind::Restriction {
-            let place = slot(s[at + 1]);
+            let place = slot(Name(s[at + 1]));
             scope = self.scopes[place];
             self.scopes[place] = (n + 1) as u16;
         }
@@ -87,7 +87,7 @@ impl Notes {
             self.lasts[entered.lasts] = Last {
                 key: own,
                 action,
-                scope: self.scopes[slot(action)],
+                scope: self.scopes[slot_of(action)],
             };
             self.last_count = entered.lasts + 1;
         }
@@ -98,7 +98,7 @@ impl Notes {
         requires { at + 1 < length s.now }
         ensures { OverRestriction s.now at entered self.old self.new }
     {
-        self.scopes[slot(s[at + 1])] = entered.scope;
+        self.scopes[slot(Name(s[at + 1]))] = entered.scope;
     }
 
     // Leaves a choice or a parallel: a choice with keys on both sides passes none of the lasts below it. Between the sides there were

@@ -3,7 +3,7 @@
 
 ghost use Rattle.std.specs.Prelude.{get_or, take, drop, ◌≡◌};
 ghost use Rattle.cursor.specs.At.{showing};
-ghost use Rattle.shared.specs.Refusal.{number, refusal, value};
+ghost use Rattle.shared.specs.Refusal.{refusal, value};
 ghost use Rattle.search.specs.First.{found, first_place, second_place, label};
 ghost use Rattle.packing.specs.Packed.{step_answer, answer, node_answer};
 
@@ -28,21 +28,28 @@ const KIND: u64 = 72057594037927936;
 
 const KEY_HIGH: u64 = 16777216;
 
+// A refusal number in the answer of a step.
+pub fn packed_step_refusal(number: u8) -> u32
+    ensures { result ≡ step_answer number 0 }
+{
+    u32::from(number) * STEP_REFUSAL
+}
+
 // The answer of a step as one number.
 pub fn packed_step(given: Result<u8, Refusal>) -> u32
     ensures { result ≡ step_answer (refusal given) (value given) }
 {
     match given {
-        Err(r) => u32::from(u8::from(r)) * STEP_REFUSAL,
+        Err(r) => packed_step_refusal(u8::from(r)),
         Ok(label) => u32::from(label),
     }
 }
 
-// A refusal, packed.
-pub fn packed_refusal(r: Refusal) -> u64
-    ensures { result ≡ answer (number r) 0 0 0 0 }
+// A refusal number in the other answers.
+pub fn packed_refusal(number: u8) -> u64
+    ensures { result ≡ answer number 0 0 0 0 }
 {
-    u64::from(u8::from(r)) * REFUSAL
+    u64::from(number) * REFUSAL
 }
 
 // An answer that is a number, packed.
@@ -50,7 +57,7 @@ pub fn packed_number(given: Result<usize, Refusal>) -> u64
     ensures { result ≡ answer (refusal given) 0 0 0 (value given) }
 {
     match given {
-        Err(r) => packed_refusal(r),
+        Err(r) => packed_refusal(u8::from(r)),
         Ok(n) => n as u64,
     }
 }
@@ -60,7 +67,7 @@ pub fn packed_first(given: Result<Option<Step>, Refusal>) -> u64
     ensures { result ≡ answer (refusal given) (found given) (label given) (first_place given) (second_place given) }
 {
     match given {
-        Err(r) => packed_refusal(r),
+        Err(r) => packed_refusal(u8::from(r)),
         Ok(None) => 0,
         Ok(Some(step)) => {
             MARK + u64::from(step.label) * LABEL + u64::from(step.p) * P + u64::from(step.q)

@@ -15,7 +15,7 @@ use showing::{Places, list};
 use wanted::shows_none;
 
 // A way down to a place: the nodes at which it turns, the node where it stands, and the label that its goal shows there.
-#[derive(Drop)]
+#[derive(Clone, Copy)]
 pub struct Way {
     pub turns: Places,
     pub node: usize,

@@ -35,13 +35,14 @@ pub trait Pass: Copy {
         ensures { OverTwo (fits self) parallel left right result };
 }
 
-// What a pass over the term at a place comes to: where the term ends, how many nodes may still come, and the term's part. A pass hands it
-// back at every level, so its numbers are short.
+// What a pass over the term at a place comes to: where the term ends, the term's part, and how many nodes may still come. A pass hands it
+// back at every level, so its numbers are short. They stand apart, so that they are copied one by one: side by side they would be read as
+// one number right after they were written as two, and the processor would wait.
 #[derive(Clone, Copy)]
 pub struct Done<T> {
     pub next: u16,
-    pub left: u16,
     pub part: T,
+    pub left: u16,
 }
 
 // A pass and the record that it goes over, lent to every level, so that a level keeps one address for both.

@@ -27,7 +27,9 @@ use Rattle.findings.specs.declared.Move.TheVariants.{Still, Step, Stuck}
 use Rattle.findings.specs.declared.Ask.TheVariants.{Undo, Forward}
 use Rattle.findings.specs.declared.Places.TheVariants.{Zero, One, Two, More}
 use Rattle.findings.specs.declared.Seen.{Seen}
-use Rattle.findings.specs.Seen.{Found, move_of, label_of, places_of}
+use Rattle.findings.specs.declared.Places.{Places}
+use Rattle.findings.specs.Seen.{move_of, label_of, spots_of, places_of}
+use Rattle.survey.specs.Survey.{Looked}
 use Rattle.plans.specs.Plan.{Asked, ForwardPlan, UndoPlan}
 
 -- a list, from its places
@@ -91,7 +93,7 @@ no_step Still l e g = cc
 no_step (Step k) l e g = cc
 no_step Stuck l e g = cc
 
-module _ (s : List ℕ) (p q m : ℕ) (x : Seen) (w : (t : Term) × Reads s t × Found (Forward p q m) 0 0 t x) where
+module _ (s : List ℕ) (p q m : ℕ) (x : Seen) (w : Looked s (Forward p q m) (Ok x)) where
   abbrev t : Term
   t = w.0
 
@@ -102,22 +104,25 @@ module _ (s : List ℕ) (p q m : ℕ) (x : Seen) (w : (t : Term) × Reads s t ×
   pub forward_zero : m ≡ 0 → ForwardPlan s p q m (Err KeyZero)
   forward_zero e = key_zero w.1 e
 
-  module _ (h : m ≢ 0) where
+  module _ (h : m ≢ 0) (found : Places) (told : (l : List ℕ) → x.spots ≡ spots_of l → found ≡ places_of l) where
     pos : 0 < m
     pos = omega arith
 
+    are : found ≡ places_of here
+    are = told here w.2.spots
+
     -- refusal 4
-    pub forward_not : (r : Refusal) → Asked x.places p q (Err r) → ForwardPlan s p q m (Err r)
+    pub forward_not : (r : Refusal) → Asked found p q (Err r) → ForwardPlan s p q m (Err r)
     forward_not r (e, f, g) = rw e (by q refl)
       where
         by : (k : ℕ) → k ≡ q → ForwardPlan s p q m (Err NoPlaces)
-        by zero z = forward_4_one s t p q m w.1 pos (sym z) (λ l. f _ (sym z) (w.2.places ∙ one_long here l))
-        by (suc k) z = ⊎_elim (λ l. forward_4_two s t p q m w.1 pos (omega arith) (λ n. g _ _ l (w.2.places ∙ two_long here n))) (λ l. forward_4_order s t p q m w.1 pos (omega arith) l) (cases_lt p q)
+        by zero z = forward_4_one s t p q m w.1 pos (sym z) (λ l. f _ (sym z) (are ∙ one_long here l))
+        by (suc k) z = ⊎_elim (λ l. forward_4_two s t p q m w.1 pos (omega arith) (λ n. g _ _ l (are ∙ two_long here n))) (λ l. forward_4_order s t p q m w.1 pos (omega arith) l) (cases_lt p q)
 
-    module _ (i : ℕ) (o : Option ℕ) (a : Asked x.places p q (Ok (i, o))) where
-      asked : (o : Option ℕ) → Asked x.places p q (Ok (i, o)) → ArePlaces t p q
-      asked None (z, e) = are_places_one t p q z (one_in here i (sym w.2.places ∙ e)).0
-      asked (Some j) (z, e) = are_places_two t p q z (two_in here i j (sym w.2.places ∙ e)).0
+    module _ (i : ℕ) (o : Option ℕ) (a : Asked found p q (Ok (i, o))) where
+      asked : (o : Option ℕ) → Asked found p q (Ok (i, o)) → ArePlaces t p q
+      asked None (z, e) = are_places_one t p q z (one_in here i (sym are ∙ e)).0
+      asked (Some j) (z, e) = are_places_two t p q z (two_in here i j (sym are ∙ e)).0
 
       -- refusal 5
       pub forward_stands : x.stands ≡ true → ForwardPlan s p q m (Err KeyStands)
@@ -140,17 +145,17 @@ module _ (s : List ℕ) (p q m : ℕ) (x : Seen) (w : (t : Term) × Reads s t ×
           pub forward_made : ForwardPlan s p q m (Ok (record { label = l; first = i; second = o }))
           forward_made = make o a
             where
-              make : (o : Option ℕ) → Asked x.places p q (Ok (i, o)) → ForwardPlan s p q m (Ok (record { label = l; first = i; second = o }))
-              make None (z, e) = let n = one_in here i (sym w.2.places ∙ e) in (
+              make : (o : Option ℕ) → Asked found p q (Ok (i, o)) → ForwardPlan s p q m (Ok (record { label = l; first = i; second = o }))
+              make None (z, e) = let n = one_in here i (sym are ∙ e) in (
                 (spot_inside (forward_choice p q) s t 0 i encoded (omega (arith, n.0)) n.1, tt),
                 forward_done_one s t p q m l i encoded w.1 pos z (sym w.2.stands ∙ f) (sym w.2.moved ∙ step_of x.moved l (label_from _ _ l g)) n.0 n.1,
               )
-              make (Some j) (z, e) = let n = two_in here i j (sym w.2.places ∙ e) in (
+              make (Some j) (z, e) = let n = two_in here i j (sym are ∙ e) in (
                 (spot_inside (forward_choice p q) s t 0 i encoded (omega (arith, n.0)) n.1, spot_inside (forward_choice p q) s t 1 j encoded (omega (arith, n.0)) n.2),
                 forward_done_two s t p q m l i j encoded w.1 pos z (sym w.2.stands ∙ f) (sym w.2.moved ∙ step_of x.moved l (label_from _ _ l g)) n.0 n.1 n.2,
               )
 
-module _ (s : List ℕ) (m : ℕ) (x : Seen) (w : (t : Term) × Reads s t × Found (Undo m) 0 0 t x) where
+module _ (s : List ℕ) (m : ℕ) (x : Seen) (w : Looked s (Undo m) (Ok x)) where
   abbrev u : Term
   u = w.0
 
@@ -161,41 +166,44 @@ module _ (s : List ℕ) (m : ℕ) (x : Seen) (w : (t : Term) × Reads s t × Fou
   pub undo_zero : m ≡ 0 → UndoPlan s m (Err KeyZero)
   undo_zero e = key_zero w.1 e
 
-  module _ (h : m ≢ 0) where
+  module _ (h : m ≢ 0) (found : Places) (told : (l : List ℕ) → x.spots ≡ spots_of l → found ≡ places_of l) where
     above : 0 < m
     above = omega arith
 
+    stand : found ≡ places_of there
+    stand = told there w.2.spots
+
     -- refusal 7
-    pub undo_absent : x.places ≡ Zero → UndoPlan s m (Err KeyAbsent)
-    undo_absent e = undo_7 s u m w.1 above (none_in there (sym w.2.places ∙ e))
+    pub undo_absent : found ≡ Zero → UndoPlan s m (Err KeyAbsent)
+    undo_absent e = undo_7 s u m w.1 above (none_in there (sym stand ∙ e))
 
     -- refusal 8
-    fails : ((l : Label) → move (undo_choice m) (λ k. true) 0 u ≡ step l → ⊥) → (x.places ≡ Zero → ⊥) → UndoPlan s m (Err NoUndo)
+    fails : ((l : Label) → move (undo_choice m) (λ k. true) 0 u ≡ step l → ⊥) → (found ≡ Zero → ⊥) → UndoPlan s m (Err NoUndo)
     fails g f = by (move (undo_choice m) (λ k. true) 0 u) refl
       where
         by : (y : pass.Move) → move (undo_choice m) (λ k. true) 0 u ≡ y → UndoPlan s m (Err NoUndo)
-        by pass.still e = absurd (undo_moves s u m w.1 above (λ z. f (w.2.places ∙ zero_long there z)) e)
+        by pass.still e = absurd (undo_moves s u m w.1 above (λ z. f (stand ∙ zero_long there z)) e)
         by (pass.step l) e = absurd (g l e)
         by pass.stuck e = undo_8 s u m w.1 above e
 
-    pub undo_more : (k i j : ℕ) → x.places ≡ More k i j → UndoPlan s m (Err NoUndo)
-    undo_more k i j e = let n = more_in there _ _ _ (sym w.2.places ∙ e) in fails (λ l g. ⊎_elim (λ z. omega (arith, n)) (λ z. omega (arith, n)) (undo_spots s u m w.1 above l g)) (λ z. absurd cc)
+    pub undo_more : (k i j : ℕ) → found ≡ More k i j → UndoPlan s m (Err NoUndo)
+    undo_more k i j e = let n = more_in there _ _ _ (sym stand ∙ e) in fails (λ l g. ⊎_elim (λ z. omega (arith, n)) (λ z. omega (arith, n)) (undo_spots s u m w.1 above l g)) (λ z. absurd cc)
 
-    pub undo_none : (r : Refusal) → Err r ≡ ok_or (label_of x.moved) NoUndo → (x.places ≡ Zero → ⊥) → UndoPlan s m (Err r)
+    pub undo_none : (r : Refusal) → Err r ≡ ok_or (label_of x.moved) NoUndo → (found ≡ Zero → ⊥) → UndoPlan s m (Err r)
     undo_none r e f = let n = none_from _ _ r e in rw n.1 (fails (λ l g. no_step x.moved l n.0 (w.2.moved ∙ g)) f)
 
     module _ (bytes : Bytes s) (l : Label) (g : Ok l ≡ ok_or (label_of x.moved) NoUndo) where
       written : encode u ≡ s
       written = (encode-decode s u bytes w.1).0
 
-      pub undo_one : (i : ℕ) → x.places ≡ One i → UndoPlan s m (Ok (record { label = l; first = i; second = None }))
-      undo_one i e = let n = one_in there i (sym w.2.places ∙ e) in (
+      pub undo_one : (i : ℕ) → found ≡ One i → UndoPlan s m (Ok (record { label = l; first = i; second = None }))
+      undo_one i e = let n = one_in there i (sym stand ∙ e) in (
         (spot_inside (undo_choice m) s u 0 i written (omega (arith, n.0)) n.1, tt),
         undo_done_one s u m l i written w.1 above (sym w.2.moved ∙ step_of x.moved l (label_from _ _ l g)) n.0 n.1,
       )
 
-      pub undo_two : (i j : ℕ) → x.places ≡ Two i j → UndoPlan s m (Ok (record { label = l; first = i; second = Some j }))
-      undo_two i j e = let n = two_in there i j (sym w.2.places ∙ e) in (
+      pub undo_two : (i j : ℕ) → found ≡ Two i j → UndoPlan s m (Ok (record { label = l; first = i; second = Some j }))
+      undo_two i j e = let n = two_in there i j (sym stand ∙ e) in (
         (spot_inside (undo_choice m) s u 0 i written (omega (arith, n.0)) n.1, spot_inside (undo_choice m) s u 1 j written (omega (arith, n.0)) n.2),
         undo_done_two s u m l i j written w.1 above (sym w.2.moved ∙ step_of x.moved l (label_from _ _ l g)) n.0 n.1 n.2,
       )

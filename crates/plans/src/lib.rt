@@ -36,7 +36,7 @@ pub fn plan_forward(s: &[u8], p: u16, q: u16, key: u16) -> Result<Plan, Refusal>
     if key == 0 {
         return Err(Refusal::KeyZero);
     }
-    let (first, second) = asked(seen.places, p, q)?;
+    let (first, second) = asked(seen.spots.places(), p, q)?;
     if seen.stands {
         return Err(Refusal::KeyStands);
     }
@@ -56,7 +56,7 @@ pub fn plan_undo(s: &[u8], key: u16) -> Result<Plan, Refusal>
     if key == 0 {
         return Err(Refusal::KeyZero);
     }
-    let (first, second) = match seen.places {
+    let (first, second) = match seen.spots.places() {
         Places::Zero => return Err(Refusal::KeyAbsent),
         Places::One(first) => (first, None),
         Places::Two(first, second) => (first, Some(second)),

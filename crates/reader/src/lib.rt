@@ -29,10 +29,12 @@ pub enum Kind {
     Restriction,
 }
 
-// The bytes of the kinds with a body, on which `node_at` tests: a match on the kind is slower there.
-const PREFIX: u8 = Kind::Prefix as u8;
+// The bytes on which walks test that have a branch for a prefix, a restriction or nil: a match on the kind is slower there.
+pub const NIL: u8 = Kind::Nil as u8;
 
-const RESTRICTION: u8 = Kind::Restriction as u8;
+pub const PREFIX: u8 = Kind::Prefix as u8;
+
+pub const RESTRICTION: u8 = Kind::Restriction as u8;
 
 const KINDS: usize = 5;
 
@@ -81,12 +83,27 @@ impl Kind {
     }
 }
 
-// The kind of the node at `at`. The caller has seen that a kind's byte stands there.
+// The kind of the node at `at`. The caller has seen that a kind's byte stands there. It is told by tests, as in `node_at`: laid into a walk, a
+// match on the byte is a jump through a table.
 pub fn kind_at(s: &[u8], at: usize) -> Kind
     requires { (at < length s.now) × (slice_index s.now at ≤ 4) }
     ensures { byte_of result ≡ slice_index s.now at }
 {
-    Kind::try_from(s[at]).unwrap()
+    let kind = s[at];
+    if kind == PREFIX {
+        return Kind::Prefix;
+    }
+    if kind == RESTRICTION {
+        return Kind::Restriction;
+    }
+    if kind == NIL {
+        return Kind::Nil;
+    }
+    if kind == Kind::Choice as u8 {
+        Kind::Choice
+    } else {
+        Kind::Parallel
+    }
 }
 
 // What stands at a place: a node with so many children, whose body ends at `next`.
@@ -145,7 +162,10 @@ pub fn node_at(s: &[u8], at: usize) -> Result<Head, Refusal>
     if byte == RESTRICTION {
         return restriction_at(s, at);
     }
-    let kind = Kind::try_from(byte)?;
+    if RESTRICTION < byte {
+        return Err(Refusal::NoRecord);
+    }
+    let kind = kind_at(s, at);
     Ok(Head {
         kind,
         children: kind.children(),

@@ -40,8 +40,8 @@ bumped Unseen = Once
 bumped Once = Twice
 bumped Twice = Never
 bumped Never = Never
-bumped Half = Never
-bumped state.Ready = Never
+bumped Half = Half
+bumped state.Ready = state.Ready
 
 -- each member's count stands at its rank
 abbrev pub Counted : List ℕ → List Key → List State → Type 0

@@ -51,7 +51,8 @@ fn bump(state: State) -> State
     match state {
         State::Unseen => State::Once,
         State::Once => State::Twice,
-        _ => State::Never,
+        State::Twice => State::Never,
+        _ => state,
     }
 }
 
@@ -64,7 +65,7 @@ fn place(ranking: &Ranking, key: u16) -> usize
 }
 
 // Counts each key at its rank, up to three.
-fn tally(keys: &[u16], ranking: &Ranking, states: &mut [State; NODES])
+pub fn tally(keys: &[u16], ranking: &Ranking, states: &mut [State; NODES])
     requires counted { (rank ranking.now.set.now.bytes 65536 ≤ node_limit) × Small keys.now × Holds ranking.now.set.now.bytes keys.now }
     requires fresh { Counted ranking.now.set.now.bytes [] states.old }
     ensures { Counted ranking.now.set.now.bytes keys.now states.new }

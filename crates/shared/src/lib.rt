@@ -65,8 +65,15 @@ pub const NAMES: usize = 128;
 // The key of a prefix that is not done.
 pub const NOT_DONE: u16 = 0;
 
-// A label's place in a table by names: that of the name that it is, or whose co-name it is.
-pub fn slot(label: u8) -> usize
+// A name's place in a table by names.
+pub fn slot(name: Name) -> usize
+    ensures { result ≡ name.0 % 128 }
+{
+    slot_of(name.0)
+}
+
+// A label's place there: that of the name that it is, or whose co-name it is.
+pub fn slot_of(label: u8) -> usize
     ensures { result ≡ label % 128 }
 {
     usize::from(label) % NAMES

@@ -13,7 +13,7 @@ use reader::NODES;
 use wanted::shows_none;
 
 // Places in a row: the first `count` of it.
-#[derive(Drop)]
+#[derive(Clone, Copy)]
 pub struct Places {
     pub row: [u16; NODES],
     pub count: usize,

@@ -4,7 +4,7 @@
 ghost use Rattle.findings.specs.Seen.{Found};
 ghost use Rattle.survey.specs.Survey.{Looked};
 
-use findings::{Ask, Move, Places, Seen};
+use findings::{Ask, Move, Seen, Spots};
 use passes::{Pass, pass_all};
 use shared::{NOT_DONE, Name, Refusal};
 
@@ -21,7 +21,7 @@ impl Pass for Survey {
         Seen {
             any: false,
             stands: false,
-            places: Places::Zero,
+            spots: Spots::none(),
             moved: Move::Still,
         }
     }
@@ -35,15 +35,15 @@ impl Pass for Survey {
         let moved = below
             .moved
             .over_prefix(chosen, ask.may_step(key), done, below.any, action);
-        let places = if chosen {
-            below.places.after(at)
+        let spots = if chosen {
+            below.spots.after(at)
         } else {
-            below.places
+            below.spots
         };
         Seen {
             any: done | below.any,
             stands: (ask.key() == key) | below.stands,
-            places,
+            spots,
             moved,
         }
     }
@@ -65,7 +65,7 @@ impl Pass for Survey {
         Seen {
             any: left.any | right.any,
             stands: left.stands | right.stands,
-            places: left.places.join(right.places),
+            spots: left.spots.join(right.spots),
             moved,
         }
     }

@@ -15,16 +15,16 @@ returns-then-key-eq0 c = let a = c.args in forward_zero a.s.now a.p a.q a.key _ 
 pub returns-in_err-first : goal.returns-in_err-first
 returns-in_err-first c = let a = c.args in
     let p = err_from_is_err_and c.from_residual-in_err-first.result c.from_residual-in_err-first.ensures.1 in
-    rw (p.1, p.2) (forward_not a.s.now a.p a.q a.key _ c.in_ok-seen.ensures c.if-key-eq0.false _ c.in_err-first.ensures)
+    rw (p.1, p.2) (forward_not a.s.now a.p a.q a.key _ c.in_ok-seen.ensures c.if-key-eq0.false _ c.places.ensures _ c.in_err-first.ensures)
 
 pub returns-then-seen : goal.returns-then-seen
-returns-then-seen c = let a = c.args in forward_stands a.s.now a.p a.q a.key _ c.in_ok-seen.ensures c.if-key-eq0.false _ _ c.in_ok-first.ensures c.if-seen.true
+returns-then-seen c = let a = c.args in forward_stands a.s.now a.p a.q a.key _ c.in_ok-seen.ensures c.if-key-eq0.false _ c.places.ensures _ _ c.in_ok-first.ensures c.if-seen.true
 
 pub returns-in_err-label : goal.returns-in_err-label
 returns-in_err-label c = let a = c.args in
     let p = err_from_is_err_and c.from_residual-in_err-label.result c.from_residual-in_err-label.ensures.1 in
-    rw (p.1, p.2) (forward_none a.s.now a.p a.q a.key _ c.in_ok-seen.ensures c.if-key-eq0.false _ _ c.in_ok-first.ensures c.if-seen.false _ (rw c.label.ensures at c.in_err-label.ensures.value))
+    rw (p.1, p.2) (forward_none a.s.now a.p a.q a.key _ c.in_ok-seen.ensures c.if-key-eq0.false _ c.places.ensures _ _ c.in_ok-first.ensures c.if-seen.false _ (rw c.label.ensures at c.in_err-label.ensures.value))
 
 pub returns : goal.returns
 returns c = let a = c.args in
-    forward_made a.s.now a.p a.q a.key _ c.in_ok-seen.ensures c.if-key-eq0.false _ _ c.in_ok-first.ensures c.if-seen.false (slice_bytes a.s.now (λ i. omega (arith, c.type_inv.s i))) _ (rw c.label.ensures at c.in_ok-label.ensures.value)
+    forward_made a.s.now a.p a.q a.key _ c.in_ok-seen.ensures c.if-key-eq0.false _ c.places.ensures _ _ c.in_ok-first.ensures c.if-seen.false (slice_bytes a.s.now (λ i. omega (arith, c.type_inv.s i))) _ (rw c.label.ensures at c.in_ok-label.ensures.value)

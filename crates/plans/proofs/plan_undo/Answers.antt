@@ -14,22 +14,22 @@ pub returns-then-key-eq0 : goal.returns-then-key-eq0
 returns-then-key-eq0 c = let a = c.args in undo_zero a.s.now a.key _ c.in_ok-seen.ensures c.if-key-eq0.true
 
 pub returns-in-Zero : goal.returns-in-Zero
-returns-in-Zero c = let a = c.args in undo_absent a.s.now a.key _ c.in_ok-seen.ensures c.if-key-eq0.false c.in-Zero.is
+returns-in-Zero c = let a = c.args in undo_absent a.s.now a.key _ c.in_ok-seen.ensures c.if-key-eq0.false _ c.places.ensures c.in-Zero.is
 
 pub returns-in-More : goal.returns-in-More
-returns-in-More c = let a = c.args in undo_more a.s.now a.key _ c.in_ok-seen.ensures c.if-key-eq0.false _ _ _ c.in-More.is
+returns-in-More c = let a = c.args in undo_more a.s.now a.key _ c.in_ok-seen.ensures c.if-key-eq0.false _ c.places.ensures _ _ _ c.in-More.is
 
 pub returns-in_err-label : goal.returns-in_err-label
 returns-in_err-label c = let a = c.args in
     let p = err_from_is_err_and c.from_residual-in_err-label.result c.from_residual-in_err-label.ensures.1 in
-    rw (p.1, p.2) (undo_none a.s.now a.key _ c.in_ok-seen.ensures c.if-key-eq0.false _ (rw c.label.ensures at c.in_err-label.ensures.value)
-    (λ z. elim c.match-seen.branch [ in-One w ↦ absurd cc | in-Two w ↦ absurd cc ]))
+    rw (p.1, p.2) (undo_none a.s.now a.key _ c.in_ok-seen.ensures c.if-key-eq0.false _ c.places.ensures _ (rw c.label.ensures at c.in_err-label.ensures.value)
+    (λ z. elim c.match-places.branch [ in-One w ↦ absurd cc | in-Two w ↦ absurd cc ]))
 
 pub returns : goal.returns
 returns c = let a = c.args in
     let b = slice_bytes a.s.now (λ i. omega (arith, c.type_inv.s i)) in
     let l = rw c.label.ensures at c.in_ok-label.ensures.value in
-    elim c.match-seen.branch [
-      | in-One w ↦ rw w.first-is (undo_one a.s.now a.key _ c.in_ok-seen.ensures c.if-key-eq0.false b _ l _ w.in-One.is)
-      | in-Two w ↦ rw w.first-is (undo_two a.s.now a.key _ c.in_ok-seen.ensures c.if-key-eq0.false b _ l _ _ w.in-Two.is)
+    elim c.match-places.branch [
+      | in-One w ↦ rw w.first-is (undo_one a.s.now a.key _ c.in_ok-seen.ensures c.if-key-eq0.false _ c.places.ensures b _ l _ w.in-One.is)
+      | in-Two w ↦ rw w.first-is (undo_two a.s.now a.key _ c.in_ok-seen.ensures c.if-key-eq0.false _ c.places.ensures b _ l _ _ w.in-Two.is)
     ]

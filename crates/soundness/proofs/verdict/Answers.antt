@@ -13,7 +13,7 @@ pub returns-in_err-marks : goal.returns-in_err-marks
 returns-in_err-marks c = let p = err_from_is_err_and c.from_residual.result c.from_residual.ensures.1 in rw (p.1, p.2) (unreadable c.in_err-marks.ensures)
 
 pub judge-requires : goal.judge-requires
-judge-requires c = fair c.args.record.now (slice_bytes c.args.record.now (λ i. search rules)) _ c.in_ok-marks.ensures (not-false _ c.if-not-marks.false) (not-false _ c.if-not-marks-2.false)
+judge-requires c = fair c.args.record.now (slice_bytes c.args.record.now (λ i. search rules)) _ c.in_ok-marks.ensures (search (not-false _ c.if-not-marks.false, not-false _ c.if-not-marks-2.false)) (search (not-false _ c.if-not-marks.false, not-false _ c.if-not-marks-2.false))
 
 pub returns : goal.returns
 returns c = elim c.if-not-marks.branch [
