@@ -6,8 +6,6 @@ use Rattle.format.specs.Limits.{node_limit, depth_limit}
 use Rattle.format.specs.Read.{Reads, Refuses}
 use Rattle.format.specs.Preorder as term
 use Rattle.reader.specs.Head.{NodeAt}
-use Rattle.shared.specs.Refusal.{number}
-use Rattle.shared.specs.declared.Refusal.{Refusal}
 use Rattle.reader.specs.Kind.{byte_of}
 use Rattle.reader.specs.declared.Head.{Head}
 use Rattle.cursor.specs.declared.Cursor.{Cursor}
@@ -25,9 +23,9 @@ pub record CursorAt (s : List ℕ) (t : Term) (n : ℕ) (c : Cursor) : Type 0 wh
   pub ahead : Ahead s c.at c.due c.many (drop n (term.preorder 1 t)) waiting
 
 -- the number of the refusal that a cursor bears; 0 where it bears none
-abbrev pub borne : Option Refusal → ℕ
+abbrev pub borne : Option ℕ → ℕ
 borne None = 0
-borne (Some r) = number r
+borne (Some c) = c
 
 -- The cursor bears the refusal k.
 pub record Bears (k : ℕ) (c : Cursor) : Type 0 where

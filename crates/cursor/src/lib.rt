@@ -4,18 +4,19 @@
 ghost use Rattle.std.specs.Prelude.{◌<◌};
 
 use reader::{DEPTH, Head, Kind};
-use shared::{Node, Refusal};
+use shared::Node;
 
 // The limits of a record, as the cursor's numbers are held.
 const NODES: u16 = reader::NODES as u16;
 
 const LEVELS: u16 = reader::DEPTH as u16;
 
-// Why the record is refused, if it is; or where the next node stands, its number, and the depths of the `many` nodes that are due: the
-// next one last. There is no heap, so the depths have room for a node on each level.
+// The number of the refusal, if the record is refused (any number, as for all that is promised of a cursor); or where the next node stands,
+// its number, and the depths of the `many` nodes that are due: the next one last. There is no heap, so the depths have room for a node on
+// each level.
 #[derive(Clone, Copy)]
 pub struct Cursor {
-    pub refusal: Option<Refusal>,
+    pub refusal: Option<u8>,
     pub at: usize,
     pub node: Node,
     pub due: [u16; DEPTH],
@@ -41,7 +42,7 @@ impl Cursor {
         let mut due = [0u16; DEPTH];
         match reader::read(bytes) {
             Err(r) => Cursor {
-                refusal: Some(r),
+                refusal: Some(u8::from(r)),
                 at: 0,
                 node: Node(0),
                 due,

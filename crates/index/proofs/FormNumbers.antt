@@ -1,15 +1,19 @@
 -- Forms against their numbers, and a node of two parts.
 use mathlib.Core.Path.{◌≡◌, refl, sym, ap, ◌∙◌}
-use mathlib.Core.Logic.{◌⊎◌, inl, inr, ⊎_elim, ◌≢◌}
+use mathlib.Core.Bool.{Bool, true, false}
+use mathlib.Core.List.{List}
+use mathlib.Core.Logic.{◌≢◌}
 use Prim.Native.Nat.{ℕ, zero, suc, ◌+◌, ◌<◌, ◌≤◌}
 use native.Mathlib.Omega.{arith}
 use lib.ListN.{get_or}
-use Rattle.ccsk.specs.Term.{Node}
+use Rattle.ccsk.specs.Term.{Term, Key, Node, nil, pre, cho, par, res}
+use Rattle.moves.specs.Move.{holds}
+use Rattle.offers.specs.Forms.{prefix_form, form_of_choice, Laid}
 use Rattle.offers.proofs.Forms.{part_below, part_beyond}
 use Rattle.index.specs.declared.Rows.{Rows}
 use Rattle.index.specs.declared.Form.{Form}
 use Rattle.index.specs.declared.Form.TheVariants.{Nothing, Own, Next, Second, Either, Both, Hidden}
-use Rattle.index.specs.Whole.{number_of, forms, SomePartAt}
+use Rattle.index.specs.Whole.{number_of, SomePartAt}
 
 -- the form with a number
 unfoldable with_number : ℕ → Form
@@ -35,33 +39,36 @@ with_number_of Hidden = refl
 pub form_once : (f g : Form) → number_of f ≡ number_of g → f ≡ g
 form_once f g e = sym (with_number_of f) ∙ ap with_number e ∙ with_number_of g
 
--- every form but these two has a number from 2 on
-pub deeper : (f : Form) → f ≢ Nothing → f ≢ Own → 2 ≤ number_of f
-deeper Nothing a b = absurd (a refl)
-deeper Own a b = absurd (b refl)
-deeper Next a b = omega arith
-deeper Second a b = omega arith
-deeper Either a b = omega arith
-deeper Both a b = omega arith
-deeper Hidden a b = omega arith
+-- no line of a part has a number above 6
+prefix_small : (k : Key) (b : Bool) → prefix_form k b ≤ 6
+prefix_small zero true = omega arith
+prefix_small zero false = omega arith
+prefix_small (suc k) b = omega arith
 
--- a form that is none of five is one of the other two
-pub one_of_two : (f : Form) → f ≢ Nothing → f ≢ Own → f ≢ Next → f ≢ Hidden → f ≢ Second → (f ≡ Either) ⊎ (f ≡ Both)
-one_of_two Nothing a b c d e = absurd (a refl)
-one_of_two Own a b c d e = absurd (b refl)
-one_of_two Next a b c d e = absurd (c refl)
-one_of_two Second a b c d e = absurd (e refl)
-one_of_two Either a b c d e = inl refl
-one_of_two Both a b c d e = inr refl
-one_of_two Hidden a b c d e = absurd (d refl)
+choice_small : (b c : Bool) → form_of_choice b c ≤ 6
+choice_small true true = omega arith
+choice_small true false = omega arith
+choice_small false true = omega arith
+choice_small false false = omega arith
 
--- A node of two parts that both step: its number, and where the parts begin.
-module _ (R : Rows) {n : Node} (S : SomePartAt R n) {f : Form} (e : number_of f ≡ get_or (forms R) n 0) (w : (f ≡ Either) ⊎ (f ≡ Both)) where
-  pub of_two : (3 < get_or (forms R) n 0) × (get_or (forms R) n 0 ≢ 6)
-  of_two = rw (← e) (⊎_elim (λ z. rw z (omega arith, λ q. omega arith)) (λ z. rw z (omega arith, λ q. omega arith)) w)
+line_small : (F A E : List ℕ) (n : Node) (t : Term) → Laid F A E n t → get_or F n 0 ≤ 6
+line_small F A E n nil L = omega (arith, L.1)
+line_small F A E n (pre a k t) L = omega (arith, L.1, prefix_small k (holds t))
+line_small F A E n (cho t u) L = omega (arith, L.1, choice_small (holds t) (holds u))
+line_small F A E n (par t u) L = omega (arith, L.1)
+line_small F A E n (res a t) L = omega (arith, L.1)
 
+pub form_small : {R : Rows} {n : Node} → SomePartAt R n → get_or R.forms n 0 ≤ 6
+form_small {R} {n} S = line_small R.forms R.args R.ends n S.0 S.1.lines
+
+-- a form that is none of five is one of the other two, of which both parts step
+pub one_of_two : {f : ℕ} → f ≢ 0 → f ≢ 1 → f ≢ 2 → f ≢ 6 → f ≢ 3 → (3 < f) × (f ≢ 6)
+one_of_two a b c d e = (omega arith, d)
+
+-- where the parts of a node of two parts begin
+module _ (R : Rows) {n : Node} (S : SomePartAt R n) (w : (3 < get_or R.forms n 0) × (get_or R.forms n 0 ≢ 6)) where
   pub first_of_two : SomePartAt R (n + 1)
-  first_of_two = part_below S (omega (arith, of_two.0)) (λ q. omega (arith, of_two.0))
+  first_of_two = part_below S (omega (arith, w.0)) (λ q. omega (arith, w.0))
 
   pub second_of_two : {k : Node} → k ≡ get_or R.ends (n + 1) 0 → SomePartAt R k × (n < k)
-  second_of_two d = part_beyond S d (omega (arith, of_two.0)) of_two.1
+  second_of_two d = part_beyond S d (omega (arith, w.0)) w.1

@@ -1,5 +1,5 @@
 -- The lines of a record's nodes: as they are noted from the first node to the last, and as they are settled from the last to the first.
-use Rattle.std.specs.Prelude.{◌≡◌, List, [], ◌∷◌, Bool, true, false, not, ◌||◌, ℕ, zero, suc, ◌≤◌, ◌<◌, map, eqb, length, get_or, Result, Ok, Err}
+use Rattle.std.specs.Prelude.{◌≡◌, List, [], ◌∷◌, Bool, true, false, not, ◌||◌, ℕ, zero, suc, ◌≤◌, ◌<◌, eqb, length, get_or, Result, Ok, Err}
 use Rattle.ccsk.specs.Term.{Term, Node, size}
 use Rattle.format.specs.Flat.{after, head_kind, head_key, head_arg}
 use Rattle.format.specs.Kinds.{length_of_body}
@@ -31,24 +31,24 @@ keyless Restriction = Hidden
 
 -- The line of node i, the first node of ts, as it is noted: the form that its kind has where no key stands, its action or name where it has
 -- one, and whether it is done.
-pub record Line (F : List Form) (A : List ℕ) (H : List Bool) (i : Node) (ts : List Term) : Type 0 where
+pub record Line (F A : List ℕ) (H : List Bool) (i : Node) (ts : List Term) : Type 0 where
   pub some : 0 < length ts
-  pub form : (kind : Kind) → byte_of kind ≡ head_kind ts → get_or F i Nothing ≡ keyless kind
+  pub form : (kind : Kind) → byte_of kind ≡ head_kind ts → get_or F i 0 ≡ number_of (keyless kind)
   pub arg : 0 < length_of_body (head_kind ts) → get_or A i 0 ≡ head_arg ts
   pub done : get_or H i false ≡ not (eqb (head_key ts) 0)
 
 -- the lines of the nodes before n are noted
-abbrev pub Lines : Term → Node → List Form → List ℕ → List Bool → Type 0
+abbrev pub Lines : Term → Node → List ℕ → List ℕ → List Bool → Type 0
 Lines t n F A H = (i : Node) → i < n → Line F A H i (pending i t)
 
 -- The lines of all n nodes are noted.
-pub record Noted (t : Term) (n : Node) (F : List Form) (A : List ℕ) (H : List Bool) : Type 0 where
+pub record Noted (t : Term) (n : Node) (F A : List ℕ) (H : List Bool) : Type 0 where
   pub lines : Lines t n F A H
   pub last : pending n t ≡ []
   pub few : n ≤ node_limit
 
 -- what `note_all` answers
-abbrev pub Notes : List ℕ → List Form → List ℕ → List Bool → Result ℕ Refusal → Type 0
+abbrev pub Notes : List ℕ → List ℕ → List ℕ → List Bool → Result ℕ Refusal → Type 0
 Notes s F A H (Err r) = Refuses s (number r)
 Notes s F A H (Ok n) = (t : Term) × RecordOf s t × Noted t n F A H
 
@@ -86,9 +86,9 @@ end_of Both next end last = last
 end_of f next end last = end
 
 -- what `settle` starts from: the n lines are those of some term
-abbrev pub Notable : Node → List Form → List Bool → Type 0
+abbrev pub Notable : Node → List ℕ → List Bool → Type 0
 Notable n F H = (t : Term) × (A : List ℕ) × Noted t n F A H
 
 -- what `settle` promises: whatever term the lines were those of, it is laid
-pub record Settles (n : Node) (F : List Form) (H : List Bool) (F' : List Form) (E' : List ℕ) : Type 0 where
-  pub all : (t : Term) (A : List ℕ) → Noted t n F A H → (n ≡ size t) × Laid (map number_of F') A E' 0 t
+pub record Settles (n : Node) (F : List ℕ) (H : List Bool) (F' E' : List ℕ) : Type 0 where
+  pub all : (t : Term) (A : List ℕ) → Noted t n F A H → (n ≡ size t) × Laid F' A E' 0 t

@@ -1,5 +1,5 @@
 -- The rows of a record as the program holds them, and those of a whole record.
-use Rattle.std.specs.Prelude.{◌≡◌, List, ℕ, map, Result, Ok, Err}
+use Rattle.std.specs.Prelude.{◌≡◌, List, ℕ, Result, Ok, Err}
 use Rattle.ccsk.specs.Term.{Term, Node, size}
 use Rattle.format.specs.Read.{Reads, Refuses}
 use Rattle.format.specs.Encode.{Fits}
@@ -20,13 +20,9 @@ number_of Either = 4
 number_of Both = 5
 number_of Hidden = 6
 
--- the row of forms as numbers
-abbrev pub forms : Rows → List ℕ
-forms R = map number_of R.forms
-
 -- the term t is the part that begins at node n of the rows
 abbrev pub PartAt : Rows → Node → Term → Type 0
-PartAt R n t = Part (forms R) R.args R.ends n t
+PartAt R n t = Part R.forms R.args R.ends n t
 
 -- some part begins at node n of the rows
 abbrev pub SomePartAt : Rows → Node → Type 0
@@ -36,7 +32,7 @@ SomePartAt R n = (t : Term) × PartAt R n t
 pub record RowsOf (t : Term) (n : ℕ) (R : Rows) : Type 0 where
   pub fits : Fits t
   pub count : n ≡ size t
-  pub lines : Laid (forms R) R.args R.ends 0 t
+  pub lines : Laid R.forms R.args R.ends 0 t
 
 -- what `index` answers
 abbrev pub Indexes : List ℕ → Rows → Result ℕ Refusal → Type 0

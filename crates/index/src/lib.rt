@@ -2,33 +2,74 @@
 // them: the record is read from the first node to the last, then forms and ends are settled from the last node to the first.
 #![tactic(auto)]
 
-ghost use Rattle.std.specs.Prelude.{◌≡◌, ◌+◌, ◌<◌, length, get_or, replicate};
+ghost use Rattle.std.specs.Prelude.{◌≡◌, ◌+◌, ◌<◌, ◌≤◌, length, get_or, replicate};
 ghost use Rattle.format.specs.Limits.{node_limit};
+ghost use Rattle.shared.specs.Tells.{Tells};
 ghost use Rattle.index.specs.Lines.{Notes, keyless, own_form, choice_form, form_of, holds_of, end_of, Notable, Settles};
-ghost use Rattle.index.specs.Whole.{number_of, forms, Indexes};
+ghost use Rattle.index.specs.Whole.{number_of, Indexes};
 
 use keys::key_at;
 use reader::{DEPTH, DUE, Kind, NODES, pass_node};
 use shared::{NOT_DONE, Refusal};
 
-// How a search goes on from a node. The first five are those of the five kinds where no key stands, in the order of the kinds: from a kind to
-// its form no step is needed.
+// How a search goes on from a node, each form with its number in a row.
 #[derive(Clone, Copy, PartialEq, Eq)]
 pub enum Form {
     // Nothing from here on steps.
-    Nothing,
+    Nothing = 0,
     // The prefix itself does.
-    Own,
-    // Either part does.
-    Either,
-    // Both parts do, and together.
-    Both,
-    // What a restriction lets through does.
-    Hidden,
+    Own = 1,
     // What begins at the next node does.
-    Next,
+    Next = 2,
     // What begins at the second part does.
-    Second,
+    Second = 3,
+    // Either part does.
+    Either = 4,
+    // Both parts do, and together.
+    Both = 5,
+    // What a restriction lets through does.
+    Hidden = 6,
+}
+
+impl From<Form> for u8 {
+    ghost from_gives = { λ form number. number ≡ number_of form };
+
+    fn from(form: Form) -> u8 {
+        form as u8
+    }
+}
+
+// The form with this number.
+fn with_number(number: u8) -> Form
+    requires { number ≤ 6 }
+    ensures { number_of result ≡ number }
+{
+    match number {
+        0 => Form::Nothing,
+        1 => Form::Own,
+        2 => Form::Next,
+        3 => Form::Second,
+        4 => Form::Either,
+        5 => Form::Both,
+        6 => Form::Hidden,
+        _ => unreachable!(),
+    }
+}
+
+// The numbers of the forms of the five kinds where no key stands, in the order of the kinds.
+const KEYLESS: [u8; 5] = [
+    Form::Nothing as u8,
+    Form::Own as u8,
+    Form::Either as u8,
+    Form::Both as u8,
+    Form::Hidden as u8,
+];
+
+// The number of the form of a node of this kind where no key stands: from a table, since a match becomes a branch for each kind.
+fn keyless(kind: Kind) -> u8
+    ensures { result ≡ number_of (keyless kind) }
+{
+    KEYLESS[kind as usize]
 }
 
 // The form of a prefix, by whether it is done and whether something below it holds a key.
@@ -57,19 +98,6 @@ fn choice_form(below: bool, beside: bool) -> Form
 }
 
 impl Form {
-    // The form of a node of this kind where no key stands.
-    fn keyless(kind: Kind) -> Form
-        ensures { result ≡ keyless kind }
-    {
-        match kind {
-            Kind::Nil => Form::Nothing,
-            Kind::Prefix => Form::Own,
-            Kind::Choice => Form::Either,
-            Kind::Parallel => Form::Both,
-            Kind::Restriction => Form::Hidden,
-        }
-    }
-
     // The form of a node that has this one where no key stands, by whether it is done and which of its parts hold a key. Here and below
     // tests of equality stand, which become moves: a match on forms, which come in no order, becomes a jump through a table.
     fn settled(self, done: bool, below: bool, beside: bool) -> Form
@@ -111,12 +139,20 @@ impl Form {
     }
 }
 
-// The rows, one line a node.
+// The rows, one line a node. Forms stand there by their numbers; where no part begins, any byte may stand.
 #[derive(Drop)]
 pub struct Rows {
-    pub forms: [Form; NODES],
+    pub forms: [u8; NODES],
     pub args: [u8; NODES],
     pub ends: [u16; NODES],
+}
+
+// Where the second part of node n begins, by the row of ends: behind what begins at the next node.
+pub fn second_part(n: usize, ends: &[u16; NODES]) -> usize
+    requires { n + 1 < node_limit }
+    ensures { result ≡ get_or ends.now (n + 1) 0 }
+{
+    usize::from(ends[n + 1])
 }
 
 // The byte after the place `at`; 0 if that is the last.
@@ -130,29 +166,38 @@ fn byte_after(bytes: &[u8], at: usize) -> u8
 impl Rows {
     // Rows without a line yet.
     pub fn new() -> Rows
-        ensures { (result.forms ≡ replicate node_limit Form.Nothing) × (result.args ≡ replicate node_limit 0) × (result.ends ≡ replicate node_limit 0) }
+        ensures { (result.forms ≡ replicate node_limit 0) × (result.args ≡ replicate node_limit 0) × (result.ends ≡ replicate node_limit 0) }
     {
         Rows {
-            forms: [Form::Nothing; NODES],
+            forms: [0; NODES],
             args: [0; NODES],
             ends: [0; NODES],
         }
     }
 
-    // The form of node n.
-    pub fn form_at(&self, n: usize) -> Form
+    // Whether node n has this form. A search asks so for one form after the other: a match would become a jump through a table that is
+    // guessed badly.
+    pub fn has_form(&self, n: usize, form: Form) -> bool
         requires { n < node_limit }
-        ensures { (number_of result ≡ get_or (forms self.now) n 0) × (n < node_limit) }
+        ensures { (Tells result (get_or self.now.forms n 0 ≡ number_of form)) × (n < node_limit) }
     {
-        self.forms[n]
+        self.forms[n] == u8::from(form)
     }
 
-    // Where the second part of node n begins: behind what begins at the next node.
+    // The form of node n, where some form stands.
+    pub fn form_at(&self, n: usize) -> Form
+        requires { (n < node_limit) × (get_or self.now.forms n 0 ≤ 6) }
+        ensures { (number_of result ≡ get_or self.now.forms n 0) × (n < node_limit) }
+    {
+        with_number(self.forms[n])
+    }
+
+    // Where the second part of node n begins.
     pub fn second_part(&self, n: usize) -> usize
         requires { n + 1 < node_limit }
         ensures { result ≡ get_or self.now.ends (n + 1) 0 }
     {
-        usize::from(self.ends[n + 1])
+        second_part(n, &self.ends)
     }
 
     // Reads the record and notes of each node the form that its kind has where no key stands, the byte after it, which is its action or name
@@ -167,7 +212,7 @@ impl Rows {
         // The terms that are due grow and shrink, and nodes differ in length: there is no range to go over.
         while 0 < many {
             let head = pass_node(bytes, at, NODES - count, many, &mut due)?;
-            self.forms[count] = Form::keyless(head.kind);
+            self.forms[count] = keyless(head.kind);
             self.args[count] = byte_after(bytes, at);
             holds[count] = key_at(bytes, at) != NOT_DONE;
             many = many - 1 + head.children;
@@ -190,11 +235,11 @@ impl Rows {
         let mut end: u16 = 0;
         let mut held = false;
         for i in (0..n).rev() {
-            let form = self.forms[i];
+            let form = with_number(self.forms[i]);
             let done = holds[i];
             let second = usize::from(end) % NODES;
             let beside = holds[second];
-            self.forms[i] = form.settled(done, held, beside);
+            self.forms[i] = u8::from(form.settled(done, held, beside));
             end = form.end(i as u16 + 1, end, self.ends[second]);
             held = form.holds(done, held, beside);
             self.ends[i] = end;

@@ -16,7 +16,7 @@ use reader::NODES;
 use shared::{NO_ACTION, Refusal};
 use showing::Places;
 use undos::listing::undo_listing;
-use wanted::mark;
+use wanted::{WANTED, mark};
 
 // What all lines of one place begin with: a word of 8 bytes, a number and a space take 14.
 type Piece = Text<16>;
@@ -55,7 +55,7 @@ fn put_pair(out: &mut Out, head: &Piece, mate: u16) {
 }
 
 // A line for each forward step, in order: one way leads on from wanted place to wanted place, and each is met once, with all its partners.
-fn put_steps(out: &mut Out, rows: &Rows, marks: &[bool; NODES], sets: &[Labels], nodes: usize)
+fn put_steps(out: &mut Out, rows: &Rows, marks: &[u8; NODES], sets: &[Labels], nodes: usize)
     requires part { SomePartAt rows.now 0 }
     requires covers { Covers rows.now sets.now }
     requires few { nodes ≤ node_limit }
@@ -63,7 +63,7 @@ fn put_steps(out: &mut Out, rows: &Rows, marks: &[bool; NODES], sets: &[Labels],
     let mut way = Way::new();
     let mut mates = Places::new();
     for i in 0..nodes {
-        if marks[i] {
+        if marks[i] == WANTED {
             way.lead(i, rows);
             let label = way.meet(i, true, rows, sets, &mut mates);
             let head = step_head(i);
@@ -131,7 +131,7 @@ pub fn list(bytes: &[u8]) -> Result<usize, Refusal>
             Err(refusal)
         }
         Ok(nodes) => {
-            let mut marks = [false; NODES];
+            let mut marks = [0; NODES];
             let mut sets = [Labels::full(); NODES + 1];
             mark(0, &Labels::full(), &rows, &mut marks, &mut sets);
             put_counts(&mut out, bytes, nodes);

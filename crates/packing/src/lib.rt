@@ -3,13 +3,11 @@
 
 ghost use Rattle.std.specs.Prelude.{get_or, take, drop, ◌≡◌};
 ghost use Rattle.cursor.specs.At.{showing};
-ghost use Rattle.shared.specs.Refusal.{refusal, value};
-ghost use Rattle.search.specs.First.{found, first_place, second_place, label};
 ghost use Rattle.packing.specs.Packed.{step_answer, answer, node_answer};
+ghost use Rattle.packing.specs.Packs.{PacksStep, PacksNumber, PacksFirst};
 
 use cursor::Shown;
 use search::Step;
-use shared::Refusal;
 
 // What a refusal number is multiplied by: 2^8 in the answer of a step, 2^48 in the other answers.
 const STEP_REFUSAL: u32 = 256;
@@ -35,12 +33,12 @@ pub fn packed_step_refusal(number: u8) -> u32
     u32::from(number) * STEP_REFUSAL
 }
 
-// The answer of a step as one number.
-pub fn packed_step(given: Result<u8, Refusal>) -> u32
-    ensures { result ≡ step_answer (refusal given) (value given) }
+// The answer of a step as one number. What it is refused with is anything that stands for a number of 8 bits.
+pub fn packed_step<E: Into<u8>>(given: Result<u8, E>) -> u32
+    ensures { PacksStep E.converts given result }
 {
     match given {
-        Err(r) => packed_step_refusal(u8::from(r)),
+        Err(r) => packed_step_refusal(r.into()),
         Ok(label) => u32::from(label),
     }
 }
@@ -53,21 +51,21 @@ pub fn packed_refusal(number: u8) -> u64
 }
 
 // An answer that is a number, packed.
-pub fn packed_number(given: Result<usize, Refusal>) -> u64
-    ensures { result ≡ answer (refusal given) 0 0 0 (value given) }
+pub fn packed_number<E: Into<u8>>(given: Result<usize, E>) -> u64
+    ensures { PacksNumber E.converts given result }
 {
     match given {
-        Err(r) => packed_refusal(u8::from(r)),
+        Err(r) => packed_refusal(r.into()),
         Ok(n) => n as u64,
     }
 }
 
 // The answer of the search for a step, packed.
-pub fn packed_first(given: Result<Option<Step>, Refusal>) -> u64
-    ensures { result ≡ answer (refusal given) (found given) (label given) (first_place given) (second_place given) }
+pub fn packed_first<E: Into<u8>>(given: Result<Option<Step>, E>) -> u64
+    ensures { PacksFirst E.converts given result }
 {
     match given {
-        Err(r) => packed_refusal(u8::from(r)),
+        Err(r) => packed_refusal(r.into()),
         Ok(None) => 0,
         Ok(Some(step)) => {
             MARK + u64::from(step.label) * LABEL + u64::from(step.p) * P + u64::from(step.q)

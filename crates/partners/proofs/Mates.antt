@@ -21,7 +21,7 @@ use Rattle.offers.proofs.Parts.{Passes, Splits, Across, Meets, offers_under, joi
 use Rattle.offers.proofs.Forms.{Form, nothing, own, next, second, either, both, hidden, form, Two, choice, parallel, two_parts}
 use Rattle.wanted.specs.Kept.{Covers}
 use Rattle.index.specs.declared.Rows.{Rows}
-use Rattle.index.specs.Whole.{forms, PartAt}
+use Rattle.index.specs.Whole.{PartAt}
 use Rattle.showing.specs.declared.Places.{Places}
 use Rattle.showing.specs.Listed.{Listed, Lists}
 use Rattle.partners.specs.Met as met
@@ -65,7 +65,7 @@ past : {X Y : Type 0} → X ⊎ Y → ¬ X → Y
 past w e = ⊎_elim (λ z. absurd (e z)) (λ z. z) w
 
 module _ {R : Rows} {K : List Labels} {n i : Node} {listing : Bool} {L : Places} where
-  meets : {L' : Places} {r : Option Label} {h : ℕ} → get_or (forms R) n 0 ≡ h → ((t : Term) → Form (forms R) R.args R.ends n h t → PartMet R K n i listing L t L' r) → met.Meets R K n i listing L L' r
+  meets : {L' : Places} {r : Option Label} {h : ℕ} → get_or R.forms n 0 ≡ h → ((t : Term) → Form R.forms R.args R.ends n h t → PartMet R K n i listing L t L' r) → met.Meets R K n i listing L L' r
   meets e f = record { label = λ t P. (f t (rw e at (form n t P))).label; mates = λ b C t P. (f t (rw e at (form n t P))).mates b C; few = λ t P. (f t (rw e at (form n t P))).few }
 
   -- nothing is met
@@ -73,16 +73,16 @@ module _ {R : Rows} {K : List Labels} {n i : Node} {listing : Bool} {L : Places}
   alone {r} e l f = record { label = l; mates = λ b C. listed_none (λ j w. f _ _ w.2.2); few = omega arith }
 
   -- at the end of a way
-  pub meets_nothing : L.count ≡ 0 → get_or (forms R) n 0 ≡ 0 → met.Meets R K n i listing L L None
+  pub meets_nothing : L.count ≡ 0 → get_or R.forms n 0 ≡ 0 → met.Meets R K n i listing L L None
   meets_nothing z e = meets e of
     where
-      of : (t : Term) → Form (forms R) R.args R.ends n 0 t → PartMet R K n i listing L t L None
+      of : (t : Term) → Form R.forms R.args R.ends n 0 t → PartMet R K n i listing L t L None
       of t (nothing s) = alone z (λ l. (λ w. absurd (s.offers w.0 l w.2), λ w. cc)) s.joins
 
-  pub meets_own : {r : Option Label} → L.count ≡ 0 → get_or (forms R) n 0 ≡ 1 → ((l : Label) → (r ≡ Some l) ↔ ((i ≡ n) × (l ≡ get_or R.args n 0))) → met.Meets R K n i listing L L r
+  pub meets_own : {r : Option Label} → L.count ≡ 0 → get_or R.forms n 0 ≡ 1 → ((l : Label) → (r ≡ Some l) ↔ ((i ≡ n) × (l ≡ get_or R.args n 0))) → met.Meets R K n i listing L L r
   meets_own {r} z e f = meets e of
     where
-      of : (t : Term) → Form (forms R) R.args R.ends n 1 t → PartMet R K n i listing L t L r
+      of : (t : Term) → Form R.forms R.args R.ends n 1 t → PartMet R K n i listing L t L r
       of t (own {a = x} q g s) = alone z (λ l. trans (at_own n i (λ p. own_offers s p l)) (rw q at (flip (f l)))) own_joins
 
   -- what is met in the one part that steps
@@ -93,17 +93,17 @@ module _ {R : Rows} {K : List Labels} {n i : Node} {listing : Bool} {L : Places}
     few = omega (arith, M.few u x, P.within);
   }
 
-  pub meets_next : {L' : Places} {r : Option Label} → get_or (forms R) n 0 ≡ 2 → met.Meets R K (n + 1) i listing L L' r → met.Meets R K n i listing L L' r
+  pub meets_next : {L' : Places} {r : Option Label} → get_or R.forms n 0 ≡ 2 → met.Meets R K (n + 1) i listing L L' r → met.Meets R K n i listing L L' r
   meets_next {L'} {r} e M = meets e of
     where
-      of : (t : Term) → Form (forms R) R.args R.ends n 2 t → PartMet R K n i listing L t L' r
+      of : (t : Term) → Form R.forms R.args R.ends n 2 t → PartMet R K n i listing L t L' r
       of t (next P x) = passed (n + 1) refl P x M
 
-  pub meets_hidden : {L' : Places} {below r : Option Label} → get_or (forms R) n 0 ≡ 6 → met.Meets R K (n + 1) i listing L L' below → Hides (get_or R.args n 0) below r → met.Meets R K n i listing L L' r
+  pub meets_hidden : {L' : Places} {below r : Option Label} → get_or R.forms n 0 ≡ 6 → met.Meets R K (n + 1) i listing L L' below → Hides (get_or R.args n 0) below r → met.Meets R K n i listing L L' r
   unfolding size
   meets_hidden {L'} {below} {r} e M H = meets e of
     where
-      of : (t : Term) → Form (forms R) R.args R.ends n 6 t → PartMet R K n i listing L t L' r
+      of : (t : Term) → Form R.forms R.args R.ends n 6 t → PartMet R K n i listing L t L' r
       of t (hidden {a = a} {t = u} d q x) = record {
         label = λ l. trans (through l) (trans (λ w. ((M.label u x l).0 w.0, w.1), λ w. ((M.label u x l).1 w.0, w.1)) (flip (rw d at (H.at l))));
         mates = λ b C. listed_same (λ j. flip (pair_in (Joins u) n 1 1 (n + 1) (n + 1) i j refl refl hidden_joins)) (M.mates b C u x);
@@ -139,10 +139,10 @@ module _ {R : Rows} {K : List Labels} {n i : Node} {listing : Bool} {L : Places}
         few = omega (arith, M.few u x, P.within);
       }
 
-    pub meets_second : {L' : Places} {r : Option Label} → 3 ≤ get_or (forms R) n 0 → get_or (forms R) n 0 ≢ 6 → (get_or (forms R) n 0 ≡ 3) ⊎ (k ≤ i) → met.Meets R K k i listing L L' r → met.Meets R K n i listing L L' r
+    pub meets_second : {L' : Places} {r : Option Label} → 3 ≤ get_or R.forms n 0 → get_or R.forms n 0 ≢ 6 → (get_or R.forms n 0 ≡ 3) ⊎ (k ≤ i) → met.Meets R K k i listing L L' r → met.Meets R K n i listing L L' r
     meets_second {L'} {r} g h o M = meets refl (λ t w. of t w g h o)
       where
-        of : {f : ℕ} (t : Term) → Form (forms R) R.args R.ends n f t → 3 ≤ f → f ≢ 6 → (f ≡ 3) ⊎ (k ≤ i) → PartMet R K n i listing L t L' r
+        of : {f : ℕ} (t : Term) → Form R.forms R.args R.ends n f t → 3 ≤ f → f ≢ 6 → (f ≡ 3) ⊎ (k ≤ i) → PartMet R K n i listing L t L' r
         of t (nothing s) g h o = absurd (omega arith)
         of t (own x y s) g h o = absurd (omega arith)
         of t (next P x) g h o = absurd (omega arith)
@@ -151,10 +151,10 @@ module _ {R : Rows} {K : List Labels} {n i : Node} {listing : Bool} {L : Places}
         of t (both {u = u} {v = v} P q x y) g h o = let g : k ≤ i = past o (λ e. omega (arith, e)) in on_right P (d ∙ q) g (λ j w. let z = (across u v n k i j (d ∙ q)).0 w in omega (arith, z.1, offers_under z.2.2.3, d, q)) (rw (d ∙ q) y) M
         of t (hidden q c x) g h o = absurd (h refl)
 
-    pub meets_left : {L' : Places} {r : Option Label} → 3 < get_or (forms R) n 0 → get_or (forms R) n 0 ≢ 6 → i < k → (get_or (forms R) n 0 ≡ 5 → listing ≡ true → r ≡ None) → met.Meets R K (n + 1) i listing L L' r → met.Meets R K n i listing L L' r
+    pub meets_left : {L' : Places} {r : Option Label} → 3 < get_or R.forms n 0 → get_or R.forms n 0 ≢ 6 → i < k → (get_or R.forms n 0 ≡ 5 → listing ≡ true → r ≡ None) → met.Meets R K (n + 1) i listing L L' r → met.Meets R K n i listing L L' r
     meets_left {L'} {r} a b h s M = meets refl (λ t w. of s (two_parts w a b))
       where
-        of : {g : ℕ} {t : Term} → (g ≡ 5 → listing ≡ true → r ≡ None) → Two (forms R) R.args R.ends n g t → PartMet R K n i listing L t L' r
+        of : {g : ℕ} {t : Term} → (g ≡ 5 → listing ≡ true → r ≡ None) → Two R.forms R.args R.ends n g t → PartMet R K n i listing L t L' r
         of s (choice P q x y) = on_left P (d ∙ q) h (λ b j w. w.2.2) x M
         of s (parallel {u = u} {v = v} P q x y) = on_left P (d ∙ q) h (λ b j w. mute j w (s refl b)) x M
           where
@@ -162,10 +162,10 @@ module _ {R : Rows} {K : List Labels} {n i : Node} {listing : Bool} {L : Places}
             mute j w z = let y = (across u v n k i j (d ∙ q)).0 w in let m = y.2.2 in let o : r ≡ Some m.0 = (M.label u x m.0).0 (y.0, y.1, m.3) in cc
 
     -- the partners on the right are listed behind those on the left
-    pub meets_both : {L' L'' : Places} {r : Option Label} → get_or (forms R) n 0 ≡ 5 → i < k → met.Meets R K (n + 1) i listing L L' r → Lists R K k (Answers r) L' L'' → met.Meets R K n i listing L L'' r
+    pub meets_both : {L' L'' : Places} {r : Option Label} → get_or R.forms n 0 ≡ 5 → i < k → met.Meets R K (n + 1) i listing L L' r → Lists R K k (Answers r) L' L'' → met.Meets R K n i listing L L'' r
     meets_both {L'' = L''} {r = r} e h M N = meets e of
       where
-        of : (t : Term) → Form (forms R) R.args R.ends n 5 t → PartMet R K n i listing L t L'' r
+        of : (t : Term) → Form R.forms R.args R.ends n 5 t → PartMet R K n i listing L t L'' r
         of t (both {u = u} {v = v} P q x a) = record {
           label = λ m. trans (left_label n k i (d ∙ q) P h m) (M.label u x m);
           mates = λ b C. listed_same (λ j. flip (trans (pairs_split n k i j (d ∙ q) P) (

@@ -13,7 +13,7 @@ use Rattle.offers.specs.Forms.{Part, SomePart}
 use Rattle.offers.proofs.Forms.{Form, nothing, own, next, second, either, both, hidden, form, inside, part_end, part_below, part_beyond, next_inside}
 use Rattle.labelset.specs.declared.Labels.{Labels}
 use Rattle.index.specs.declared.Rows.{Rows}
-use Rattle.index.specs.Whole.{forms, SomePartAt}
+use Rattle.index.specs.Whole.{SomePartAt}
 use Rattle.std.specs.Prelude.{Option, None}
 use Rattle.showing.specs.Listed.{Lists}
 use Rattle.showing.specs.declared.Places.{Places}
@@ -51,10 +51,10 @@ module _ {R : Rows} where
   turn_inner T e = rw e (part_below T.part (omega (arith, T.form)) (λ q. omega (arith, q, T.form)))
 
   -- one node on
-  onward_next : {i m n : Node} → SomePartAt R n → get_or (forms R) n 0 ≡ 2 → Onward R i m n → Onward R i m (n + 1)
+  onward_next : {i m n : Node} → SomePartAt R n → get_or R.forms n 0 ≡ 2 → Onward R i m n → Onward R i m (n + 1)
   onward_next S e o = record { met = λ j K b L L' r h M. o.met j K b L L' r h (meets_next e M); ends = omega (arith, ends_below S (omega (arith, e)) (λ q. omega (arith, e)), o.ends) }
 
-  onward_second : {i m n k : Node} → SomePartAt R n → k ≡ get_or R.ends (n + 1) 0 → 3 ≤ get_or (forms R) n 0 → get_or (forms R) n 0 ≢ 6 → (get_or (forms R) n 0 ≡ 3) ⊎ (k ≤ i) → Onward R i m n → Onward R i m k
+  onward_second : {i m n k : Node} → SomePartAt R n → k ≡ get_or R.ends (n + 1) 0 → 3 ≤ get_or R.forms n 0 → get_or R.forms n 0 ≢ 6 → (get_or R.forms n 0 ≡ 3) ⊎ (k ≤ i) → Onward R i m n → Onward R i m k
   onward_second {n = n} S d g h w o = record {
     met = λ j K b L L' r q M. o.met j K b L L' r q (meets_second d g h (⊎_elim inl (λ z. inr (omega arith)) w) M);
     ends = omega (arith, (within S.1 d (form n S.0 S.1)).1 g h, o.ends);
@@ -81,10 +81,10 @@ module _ {R : Rows} where
       pub way_back : (j : ℕ) → d ≡ suc j → Leads R W i j (get_or W j 0)
       way_back j e = let T = w.turns j (omega arith) in record { part = T.part; turns = λ k h. w.turns k (omega arith); last = T.from; deep = T.deep; low = inside T.part }
 
-      pub way_next : get_or (forms R) n 0 ≡ 2 → Leads R W i d (n + 1)
+      pub way_next : get_or R.forms n 0 ≡ 2 → Leads R W i d (n + 1)
       way_next e = let D = part_below w.part (omega (arith, e)) (λ q. omega (arith, e)) in record { part = D; turns = w.turns; last = onward_next w.part e w.last; deep = omega (arith, w.deep); low = inside D }
 
-      pub way_second : {k : Node} → k ≡ get_or R.ends (n + 1) 0 → 3 ≤ get_or (forms R) n 0 → get_or (forms R) n 0 ≢ 6 → (get_or (forms R) n 0 ≡ 3) ⊎ (k ≤ i) → Leads R W i d k
+      pub way_second : {k : Node} → k ≡ get_or R.ends (n + 1) 0 → 3 ≤ get_or R.forms n 0 → get_or R.forms n 0 ≢ 6 → (get_or R.forms n 0 ≡ 3) ⊎ (k ≤ i) → Leads R W i d k
       way_second q g h o = let B = part_beyond w.part q g h in record { part = B.0; turns = w.turns; last = onward_second w.part q g h o w.last; deep = omega (arith, w.deep, B.1); low = inside B.0 }
 
       -- turns end one inside the other
@@ -102,7 +102,7 @@ module _ {R : Rows} where
 
   -- a turn more
   module _ {W : List ℕ} {i n : Node} {d : ℕ} (l : d < length W) where
-    pub way_turn : {m : ℕ} → m ≡ suc d → Leads R W i d n → 3 < get_or (forms R) n 0 → Leads R (set W d n) i m (n + 1)
+    pub way_turn : {m : ℕ} → m ≡ suc d → Leads R W i d n → 3 < get_or R.forms n 0 → Leads R (set W d n) i m (n + 1)
     way_turn q w f = rw q (record { part = part_below w.part (omega arith) (λ z. omega (arith, z)); turns = λ k h. pick k h (ℕ_discrete k d); last = rw here (record { met = λ j K b L L' r h M. M; ends = omega arith }); deep = omega (arith, w.deep); low = next_inside w.part (omega arith) })
       where
         here : get_or (set W d n) d 0 ≡ n
@@ -112,10 +112,10 @@ module _ {R : Rows} where
         pick k h (yes e) = rw e (record { part = rw here w.part; form = rw here f; from = rw (here, kept_inner W d n d (omega arith)) w.last; deep = rw here w.deep })
         pick k h (no e) = let g : k < d = omega arith in let T = w.turns k g in record { part = rw (kept W d n k g) T.part; form = rw (kept W d n k g) T.form; from = rw (kept W d n k g, kept_inner W d n k (omega arith)) T.from; deep = rw (kept W d n k g) T.deep }
 
-pub left_turn : (R : Rows) (W : List ℕ) (i n : Node) (d m : ℕ) → d < length W → m ≡ suc d → Left R W i d → (get_or (forms R) n 0 ≢ 6 → i < get_or R.ends (n + 1) 0) → Left R (set W d n) i m
+pub left_turn : (R : Rows) (W : List ℕ) (i n : Node) (d m : ℕ) → d < length W → m ≡ suc d → Left R W i d → (get_or R.forms n 0 ≢ 6 → i < get_or R.ends (n + 1) 0) → Left R (set W d n) i m
 left_turn R W i n d m l q f g k h = pick (ℕ_discrete k d)
   where
-    pick : Dec (k ≡ d) → get_or (forms R) (get_or (set W d n) k 0) 0 ≢ 6 → i < get_or R.ends (get_or (set W d n) k 0 + 1) 0
+    pick : Dec (k ≡ d) → get_or R.forms (get_or (set W d n) k 0) 0 ≢ 6 → i < get_or R.ends (get_or (set W d n) k 0 + 1) 0
     pick (yes e) = rw (e, get_or-set_same W d n 0 l) g
     pick (no e) = let b : k < d = omega arith in rw (kept W d n k b) (f k b)
 
@@ -128,19 +128,19 @@ module _ {R : Rows} {K : List Labels} {L L' : Places} {i n : Node} {s : Way} {li
   up : {L'' : Places} {r : Option Label} → Meets R K n i listing L L'' r → Meets R K (inner s.turns.row j) i listing L L'' r
   up N = (w.way.turns j h).from.met i K listing _ _ _ (omega arith) (rw e at N)
 
-  turns : 3 < get_or (forms R) n 0
+  turns : 3 < get_or R.forms n 0
   turns = rw e (w.way.turns j h).form
 
-  before : get_or (forms R) n 0 ≢ 6 → i < get_or R.ends (n + 1) 0
+  before : get_or R.forms n 0 ≢ 6 → i < get_or R.ends (n + 1) 0
   before = rw e (w.left j h)
 
-  pub back_hidden : {r : Option Label} → get_or (forms R) n 0 ≡ 6 → Hides (get_or R.args n 0) l r → Meets R K (inner s.turns.row j) i listing L L' r
+  pub back_hidden : {r : Option Label} → get_or R.forms n 0 ≡ 6 → Hides (get_or R.args n 0) l r → Meets R K (inner s.turns.row j) i listing L L' r
   back_hidden f H = up (meets_hidden f here H)
 
-  pub back_left : get_or (forms R) n 0 ≢ 6 → (get_or (forms R) n 0 ≡ 5 → listing ≡ true → l ≡ None) → Meets R K (inner s.turns.row j) i listing L L' l
+  pub back_left : get_or R.forms n 0 ≢ 6 → (get_or R.forms n 0 ≡ 5 → listing ≡ true → l ≡ None) → Meets R K (inner s.turns.row j) i listing L L' l
   back_left f z = up (meets_left refl turns f (before f) z here)
 
-  pub back_both : {L'' : Places} {m : Node} → get_or (forms R) n 0 ≡ 5 → m ≡ get_or R.ends (n + 1) 0 → Lists R K m (Answers l) L' L'' → Meets R K (inner s.turns.row j) i listing L L'' l
+  pub back_both : {L'' : Places} {m : Node} → get_or R.forms n 0 ≡ 5 → m ≡ get_or R.ends (n + 1) 0 → Lists R K m (Answers l) L' L'' → Meets R K (inner s.turns.row j) i listing L L'' l
   back_both f d N = up (meets_both d f (rw d (before (λ x. omega (arith, f, x)))) here N)
 
 -- the partners listed so far stand before the second part

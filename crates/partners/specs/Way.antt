@@ -4,7 +4,7 @@ use Rattle.ccsk.specs.Term.{Label, Node}
 use Rattle.format.specs.Limits.{node_limit}
 use Rattle.labelset.specs.declared.Labels.{Labels}
 use Rattle.index.specs.declared.Rows.{Rows}
-use Rattle.index.specs.Whole.{forms, SomePartAt}
+use Rattle.index.specs.Whole.{SomePartAt}
 use Rattle.showing.specs.declared.Places.{Places}
 use Rattle.partners.specs.declared.Way.{Way}
 use Rattle.partners.specs.Met.{Meets}
@@ -22,7 +22,7 @@ inner W (suc k) = get_or W k 0 + 1
 -- The way goes on to a node with two parts or a restriction, and there turns.
 pub record Turn (R : Rows) (W : List ℕ) (i : Node) (k : ℕ) : Type 0 where
   pub part : SomePartAt R (get_or W k 0)
-  pub form : 3 < get_or (forms R) (get_or W k 0) 0
+  pub form : 3 < get_or R.forms (get_or W k 0) 0
   pub from : Onward R i (inner W k) (get_or W k 0)
   pub deep : k ≤ get_or W k 0
 
@@ -40,7 +40,7 @@ OnWay R i w = Leads R w.turns.row i w.turns.count w.node
 
 -- where the way turns into the first of two parts, the place i stands before the second
 abbrev pub Left : Rows → List ℕ → Node → ℕ → Type 0
-Left R W i d = (k : ℕ) → k < d → get_or (forms R) (get_or W k 0) 0 ≢ 6 → i < get_or R.ends (get_or W k 0 + 1) 0
+Left R W i d = (k : ℕ) → k < d → get_or R.forms (get_or W k 0) 0 ≢ 6 → i < get_or R.ends (get_or W k 0 + 1) 0
 
 -- The way leads to the place i, which meets no other place where it stands.
 pub record WayTo (R : Rows) (i : Node) (w : Way) : Type 0 where

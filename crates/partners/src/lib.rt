@@ -81,29 +81,27 @@ impl Way {
             self.node = last;
         }
         'down: loop {
-            // Tests of equality stand for a match, which would become a jump through a table that is guessed badly.
             let n = self.node;
-            let form = rows.form_at(n);
-            if form == Form::Nothing {
+            if rows.has_form(n, Form::Nothing) {
                 self.label = None;
                 return;
             }
-            if form == Form::Own {
+            if rows.has_form(n, Form::Own) {
                 self.label = (n == i).then_some(rows.args[n]);
                 return;
             }
             let next = n + 1;
-            if form == Form::Next {
+            if rows.has_form(n, Form::Next) {
                 self.node = next;
                 continue 'down;
             }
-            if form == Form::Hidden {
+            if rows.has_form(n, Form::Hidden) {
                 self.turns.push(n);
                 self.node = next;
                 continue 'down;
             }
             let second = rows.second_part(n);
-            if form == Form::Second {
+            if rows.has_form(n, Form::Second) {
                 self.node = second;
                 continue 'down;
             }

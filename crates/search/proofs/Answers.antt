@@ -1,8 +1,7 @@
 -- The answer of the search over the rows of a record is the operation's answer.
-use mathlib.Core.Path.{◌≡◌, sym, ◌∙◌}
+use mathlib.Core.Path.{◌≡◌}
 use mathlib.Core.Logic.{inr, ⊎_elim, ◌↔◌}
 use mathlib.Core.List.{List}
-use mathlib.Core.Bool.{Bool, true, false, false≢true}
 use Prim.Native.Nat.{ℕ, ◌<◌, ◌≤◌}
 use native.Mathlib.Decide.{dec_lt}
 use native.Mathlib.Omega.{arith}
@@ -27,22 +26,22 @@ use Rattle.search.specs.First as answer
 use Rattle.search.proofs.Places.{at_zero, no_marks}
 
 -- the marks that the pass leaves in a row without any, if every label is asked for, as far as there are nodes
-pub marked_all : {R : Rows} {M : List Bool} {K K' : List Labels} {all : Labels} {t : Term} {n m : ℕ} → n ≤ m → RowsOf t n R → Exactly all (λ l. l < 256) → Marks R 0 all (replicate m false) K M K' → answer.Ready t R (take n M)
+pub marked_all : {R : Rows} {M : List ℕ} {K K' : List Labels} {all : Labels} {t : Term} {n m : ℕ} → n ≤ m → RowsOf t n R → Exactly all (λ l. l < 256) → Marks R 0 all (replicate m 0) K M K' → answer.Ready t R (take n M)
 marked_all {R} {M} {all = all} {t = t} {n} {m} h W e k = record { rows = rw long W; marked = λ i. pick i (dec_lt i n) }
   where
     long : length (take n M) ≡ n
-    long = omega (arith, length-take n M, k.room, length-replicate m false)
+    long = omega (arith, length-take n M, k.room, length-replicate {A = ℕ} m 0)
 
-    added : (i : Node) → (get_or M i false ≡ true) ↔ Wanted (Shows all) t i
+    added : (i : Node) → (get_or M i 0 ≡ 1) ↔ Wanted (Shows all) t i
     added i = let w = (k.part t (rows_part W)).adds.at i in let a = at_zero (Wanted (Shows all) t) i in
-        (λ x. ⊎_elim (λ y. absurd (false≢true (sym (no_marks m i) ∙ y))) (λ y. a.0 y) (w.0 x), λ x. w.1 (inr (a.1 x)))
+        (λ x. ⊎_elim (λ y. absurd (omega (arith, no_marks m i, y))) (λ y. a.0 y) (w.0 x), λ x. w.1 (inr (a.1 x)))
 
     low : (i : Node) → Wanted (λ l. l < 256) t i → i < n
     low i w = ⊎_elim (λ z. omega (arith, offers_under z.2, W.count)) (λ z. omega (arith, joins_under z.1, W.count)) w
 
-    pick : (i : Node) → Dec (i < n) → (get_or (take n M) i false ≡ true) ↔ Wanted (λ l. l < 256) t i
-    pick i (yes l) = rw (get_or-take n M i false l) (trans (added i) (wanted_same {t = t} e.at i))
-    pick i (no l) = rw (get_or_past (take n M) i false (omega (arith, long))) (λ x. absurd (false≢true x), λ w. absurd (l (low i w)))
+    pick : (i : Node) → Dec (i < n) → (get_or (take n M) i 0 ≡ 1) ↔ Wanted (λ l. l < 256) t i
+    pick i (yes l) = rw (get_or-take n M i 0 l) (trans (added i) (wanted_same {t = t} e.at i))
+    pick i (no l) = rw (get_or_past (take n M) i 0 (omega (arith, long))) (λ x. absurd (omega (arith, x)), λ w. absurd (l (low i w)))
 
 pub first_answer : (s : List ℕ) (t : Term) (p q : Node) → Reads s t → (r : Option Step) → answer.NextOf t p q r
     → FirstStep s p q 0 (answer.found (Ok r)) (answer.first_place (Ok r)) (answer.second_place (Ok r)) (answer.label (Ok r))

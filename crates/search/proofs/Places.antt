@@ -1,8 +1,8 @@
 -- The steps of one place, by its mark, its label and its partners.
-use mathlib.Core.Path.{◌≡◌, refl, sym, ◌∙◌}
-use mathlib.Core.Logic.{inl, inr, ⊎_elim, ◌↔◌}
+use mathlib.Core.Path.{◌≡◌, refl}
+use mathlib.Core.Logic.{inl, inr, ⊎_elim, ◌↔◌, ◌≢◌}
 use mathlib.Core.List.{List}
-use mathlib.Core.Bool.{Bool, true, false, false≢true}
+use mathlib.Core.Bool.{Bool, true}
 use Prim.Native.Nat.{ℕ, zero, suc, ◌<◌}
 use native.Mathlib.Omega.{arith}
 use lib.ListN.{length, get_or, replicate}
@@ -29,7 +29,7 @@ at_zero P i = (λ w. let e : w.0 ≡ i = omega (arith, w.1) in rw e at w.2, λ w
 pub covers_none : {R : Rows} {K : List Labels} → length K ≡ 0 → Covers R K
 covers_none e = record { at = λ i t l P h. absurd (omega arith) }
 
-module _ {t : Term} {R : Rows} {M : List Bool} (Y : Ready t R M) where
+module _ {t : Term} {R : Rows} {M : List ℕ} (Y : Ready t R M) where
   pub whole : PartAt R 0 t
   whole = rows_part Y.rows
 
@@ -38,8 +38,8 @@ module _ {t : Term} {R : Rows} {M : List Bool} (Y : Ready t R M) where
   step_wanted i zero l w = let o = (free_alone t i l).0 w in inl (l, offers_low Y.rows.fits.range o, o)
   step_wanted i (suc j) l w = inr (suc j, ((free_joined t i (suc j) l (omega arith)).0 w).1)
 
-  pub unmarked : (i : Node) → get_or M i false ≡ false → (j : Node) (l : Label) → ¬ FreeStep t i j l
-  unmarked i f j l w = false≢true (sym f ∙ (Y.marked i).1 (step_wanted i j l w))
+  pub unmarked : (i : Node) → get_or M i 0 ≢ 1 → (j : Node) (l : Label) → ¬ FreeStep t i j l
+  unmarked i f j l w = f ((Y.marked i).1 (step_wanted i j l w))
 
   pub step_low : (i j : Node) (l : Label) → FreeStep t i j l → i < length M
   step_low i j l w = ⊎_elim (λ z. omega (arith, offers_under z.2, Y.rows.count)) (λ z. omega (arith, joins_under z.1, Y.rows.count)) (step_wanted i j l w)
@@ -70,8 +70,8 @@ module _ {t : Term} {R : Rows} {M : List Bool} (Y : Ready t R M) where
       pub mates_rise : (j k : ℕ) → j < k → k < L'.count → get_or L'.row j 0 < get_or L'.row k 0
       mates_rise j k h g = (m.mates e c t whole).rising j k (omega arith) h g
 
--- a row of tests that fail has no mark
-pub no_marks : (m k : ℕ) → get_or (replicate m false) k false ≡ false
+-- a row of zeros has no mark
+pub no_marks : (m k : ℕ) → ◌≡◌ {A = ℕ} (get_or (replicate m 0) k 0) 0
 no_marks zero k = refl
 no_marks (suc m) zero = refl
 no_marks (suc m) (suc k) = no_marks m k

@@ -1,8 +1,8 @@
 -- How far the search has come: every step at or after the start stands at or after the present places.
 use mathlib.Core.Path.{◌≡◌, refl}
-use mathlib.Core.Logic.{inl, inr, ⊎_elim}
+use mathlib.Core.Logic.{inl, inr, ⊎_elim, ◌≢◌}
 use mathlib.Core.List.{List}
-use mathlib.Core.Bool.{Bool, true}
+use mathlib.Core.Bool.{true}
 use Prim.Native.Nat.{ℕ, zero, suc, ◌+◌, ◌<◌, ◌≤◌}
 use native.Mathlib.Decide.{ℕ_discrete, dec_lt}
 use native.Mathlib.Omega.{arith}
@@ -11,7 +11,7 @@ use lib.ListN.{get_or, take}
 use Rattle.ccsk.specs.Term.{Term, Label, Node}
 use Rattle.operations.specs.Order.{AtOrAfter, FreeStep, NoFreeStep, FirstFrom}
 use Rattle.wanted.specs.Kept.{Covers}
-use Rattle.std.specs.Prelude.{Option, length, false}
+use Rattle.std.specs.Prelude.{Option, length}
 use Rattle.labelset.specs.declared.Labels.{Labels}
 use Rattle.index.specs.declared.Rows.{Rows}
 use Rattle.showing.specs.declared.Places.{Places}
@@ -47,8 +47,8 @@ module _ {t : Term} {p q i j : Node} (r : Reached t p q i j) where
   pub reached_found : {l : Label} → FreeStep t i j l → FirstFrom t p q i j l
   reached_found w = record { step = w; after = r.after; least = r.least }
 
-module _ {t : Term} {R : Rows} {M : List Bool} (Y : Ready t R M) {p q i from : Node} (r : Reached t p q i from) where
-  pub reached_skip : get_or M i false ≡ false → Reached t p q (i + 1) 0
+module _ {t : Term} {R : Rows} {M : List ℕ} (Y : Ready t R M) {p q i from : Node} (r : Reached t p q i from) where
+  pub reached_skip : get_or M i 0 ≢ 1 → Reached t p q (i + 1) 0
   reached_skip f = reached_on r (λ j l h. unmarked Y i f j l)
 
   pub reached_none : length M ≤ i → NoFreeStep t p q

@@ -1,5 +1,5 @@
 -- The mark and the values of each answer of the search (01, Operations: first forward step).
-use Rattle.std.specs.Prelude.{◌≡◌, ◌↔◌, List, Bool, true, false, ℕ, ◌<◌, length, get_or, Option, Some, None, Result, Ok, Err}
+use Rattle.std.specs.Prelude.{◌≡◌, ◌↔◌, List, ℕ, ◌<◌, length, get_or, Option, Some, None, Result, Ok, Err}
 use Rattle.ccsk.specs.Term.{Term, Label, Node}
 use Rattle.operations.specs.Order.{FirstFrom, NoFreeStep}
 use Rattle.offers.specs.Offers.{Wanted}
@@ -35,14 +35,14 @@ NextOf t p q None = NoFreeStep t p q
 NextOf t p q (Some s) = FirstFrom t p q s.p s.q s.label
 
 -- The rows are those of the term t, and of its nodes those are marked that step alone or together with a later one.
-pub record Ready (t : Term) (R : Rows) (M : List Bool) : Type 0 where
+pub record Ready (t : Term) (R : Rows) (M : List ℕ) : Type 0 where
   pub rows : RowsOf t (length M) R
-  pub marked : (i : Node) → (get_or M i false ≡ true) ↔ Wanted (λ l. l < 256) t i
+  pub marked : (i : Node) → (get_or M i 0 ≡ 1) ↔ Wanted (λ l. l < 256) t i
 
 -- the rows and marks are those of some term
-abbrev pub SomeReady : Rows → List Bool → Type 0
+abbrev pub SomeReady : Rows → List ℕ → Type 0
 SomeReady R M = (t : Term) × Ready t R M
 
 -- whichever term's they are
-abbrev pub Next : Rows → List Bool → Node → Node → Option Step → Type 0
+abbrev pub Next : Rows → List ℕ → Node → Node → Option Step → Type 0
 Next R M p q r = (t : Term) → Ready t R M → NextOf t p q r

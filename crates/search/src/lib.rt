@@ -11,7 +11,7 @@ use partners::Way;
 use reader::NODES;
 use shared::{Node, Refusal, TAU};
 use showing::Places;
-use wanted::mark;
+use wanted::{WANTED, mark};
 
 // A forward step: its places and its label. The second place is 0 where the first steps alone.
 #[derive(Clone, Copy)]
@@ -23,7 +23,7 @@ pub struct Step {
 
 // The first step at or after (p, q), by the rows of a record and the marks of its wanted places. A wanted place has a step: no more than two
 // places are looked at, the one that the question begins in and the next.
-fn next_step(rows: &Rows, marks: &[bool], p: Node, q: Node) -> Option<Step>
+fn next_step(rows: &Rows, marks: &[u8], p: Node, q: Node) -> Option<Step>
     requires { SomeReady rows.now marks.now }
     ensures { Next rows.now marks.now p.0 q.0 result }
 {
@@ -33,7 +33,7 @@ fn next_step(rows: &Rows, marks: &[bool], p: Node, q: Node) -> Option<Step>
     let mut from = usize::from(q.0);
     let mut first = None;
     'search: for i in usize::from(p.0)..marks.len() {
-        let wanted = marks[i];
+        let wanted = marks[i] == WANTED;
         if wanted {
             way.lead(i, rows);
             // Two tests and no chain: after a chain the proof would not know that a place which is passed shows no label.
@@ -71,7 +71,7 @@ pub fn first_step(record: &[u8], p: Node, q: Node) -> Result<Option<Step>, Refus
 {
     let mut rows = Rows::new();
     let nodes = rows.index(record)?;
-    let mut marks = [false; NODES];
+    let mut marks = [0; NODES];
     let mut sets = [Labels::empty()];
     mark(0, &Labels::full(), &rows, &mut marks, &mut sets);
     Ok(next_step(&rows, &marks[..nodes], p, q))

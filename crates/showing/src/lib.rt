@@ -70,27 +70,25 @@ pub fn list(n: usize, want: Labels, rows: &Rows, sets: &[Labels], places: &mut P
     let mut at = n;
     // Nodes are passed along links: there is no range to go over.
     'down: loop {
-        // Tests of equality stand for a match, which would become a jump through a table that is guessed badly.
-        let form = rows.form_at(at);
-        if form == Form::Nothing {
+        if rows.has_form(at, Form::Nothing) {
             return;
         }
-        if form == Form::Own {
+        if rows.has_form(at, Form::Own) {
             list_own(at, rows.args[at], seek, places);
             return;
         }
         let next = at + 1;
-        if form == Form::Next {
+        if rows.has_form(at, Form::Next) {
             at = next;
             continue 'down;
         }
-        if form == Form::Hidden {
+        if rows.has_form(at, Form::Hidden) {
             seek = seek.without_name(rows.args[at]);
             at = next;
             continue 'down;
         }
         let second = rows.second_part(at);
-        if form == Form::Second {
+        if rows.has_form(at, Form::Second) {
             at = second;
             continue 'down;
         }

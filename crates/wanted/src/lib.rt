@@ -13,6 +13,9 @@ use index::{Form, Rows};
 use labelset::Labels;
 use reader::NODES;
 
+// The mark of a place that is wanted. Every other byte is none, so that a row of any bytes can be lent.
+pub const WANTED: u8 = 1;
+
 // Puts a set at a place of the row, if it goes so far.
 fn put(place: usize, set: Labels, row: &mut [Labels])
     ensures { Keeps place set row.old row.new }
@@ -40,12 +43,12 @@ pub fn shows_none(n: usize, labels: Labels, row: &[Labels]) -> bool
 }
 
 // Marks the prefix at node n, whose action is a, if its action is asked for.
-fn mark_own(n: usize, a: u8, told: Labels, marks: &mut [bool; NODES])
+fn mark_own(n: usize, a: u8, told: Labels, marks: &mut [u8; NODES])
     requires { n < node_limit }
     ensures { Adds (λ i. (i ≡ n) × Shows told a) marks.old marks.new }
 {
     if told.has(a) {
-        marks[n] = true;
+        marks[n] = WANTED;
     }
 }
 
@@ -61,31 +64,30 @@ fn asked(form: Form, told: Labels, right: Labels) -> Labels
 
 // Marks the wanted places of the part at node n, where the labels `told` are asked for around it. The labels that it shows are left in front
 // of the row of sets. Both are handed on in memory, so that the stack of this recursion is small, and where one part alone steps the call is
-// the last thing done. Tests of equality stand for a match, which would become a jump through a table that is guessed badly.
-pub fn mark(n: usize, told: &Labels, rows: &Rows, marks: &mut [bool; NODES], sets: &mut [Labels])
+// the last thing done.
+pub fn mark(n: usize, told: &Labels, rows: &Rows, marks: &mut [u8; NODES], sets: &mut [Labels])
     requires some_part { SomePartAt rows.now n }
     requires room { 0 < length sets.old }
     ensures { Marks rows.now n told.now marks.old sets.old marks.new sets.new }
 {
-    let form = rows.form_at(n);
-    if form == Form::Nothing {
+    if rows.has_form(n, Form::Nothing) {
         show(n, Labels::empty(), sets);
         return;
     }
-    if form == Form::Own {
+    if rows.has_form(n, Form::Own) {
         let a = rows.args[n];
         mark_own(n, a, *told, marks);
         show(n, Labels::only(a), sets);
         return;
     }
     let next = n + 1;
-    if form == Form::Next {
+    if rows.has_form(n, Form::Next) {
         mark(next, told, rows, marks, sets);
         return;
     }
     // What is asked below the next node: one variable for two branches, so that it has one place on the stack.
     let mut below = *told;
-    if form == Form::Hidden {
+    if rows.has_form(n, Form::Hidden) {
         let a = rows.args[n];
         below = told.without_name(a);
         mark(next, &below, rows, marks, sets);
@@ -93,12 +95,13 @@ pub fn mark(n: usize, told: &Labels, rows: &Rows, marks: &mut [bool; NODES], set
         return;
     }
     let second = rows.second_part(n);
-    if form == Form::Second {
+    if rows.has_form(n, Form::Second) {
         mark(second, told, rows, marks, sets);
         return;
     }
     mark(second, told, rows, marks, sets);
     let right = sets[0];
+    let form = rows.form_at(n);
     below = asked(form, *told, right);
     mark(next, &below, rows, marks, sets);
     show(n, sets[0].joined(right), sets);

@@ -1,6 +1,6 @@
 -- `concoursel_count` meets its contract: the operation's answer, packed.
-use Rattle.packing.proofs.Packs.{pack_number}
+use Rattle.packing.proofs.Packs.{pack_number, number_told}
 use Rattle.concoursel.proofs.concoursel_count.Goals as goal
 
 pub returns : goal.returns
-returns c = pack_number _ _ _ c.packed_number.ensures c.count.ensures
+returns c = pack_number _ _ _ (number_told _ _ c.packed_number.ensures) c.count.ensures

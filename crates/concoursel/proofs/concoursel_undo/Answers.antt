@@ -1,6 +1,6 @@
 -- `concoursel_undo` meets its contract: the operation's answer, packed.
-use Rattle.packing.proofs.Packs.{pack_step}
+use Rattle.packing.proofs.Packs.{pack_step, step_told}
 use Rattle.concoursel.proofs.concoursel_undo.Goals as goal
 
 pub returns : goal.returns
-returns c = pack_step _ _ _ _ c.packed_step.ensures c.undo.ensures
+returns c = pack_step _ _ _ _ (step_told _ _ c.packed_step.ensures) c.undo.ensures

@@ -6,7 +6,7 @@ use Rattle.cursor.proofs.Promise.{opens_refused, opens_standing}
 use Rattle.cursor.proofs.Cursor.open.Goals as goal
 
 pub returns-in-Err : goal.returns-in-Err
-returns-in-Err c = opens_refused c.args.bytes.now _ _ (record_refused c.args.bytes.now _ c.in-Err.ensures) refl refl
+returns-in-Err c = opens_refused c.args.bytes.now _ _ (record_refused c.args.bytes.now _ c.in-Err.ensures) c.from.ensures refl
 
 pub returns-in-Ok : goal.returns-in-Ok
 returns-in-Ok c = let r = record_reads c.args.bytes.now _ c.in-Ok.ensures in

@@ -2,7 +2,7 @@
 use mathlib.Core.Path.{refl, sym, ◌∙◌}
 use mathlib.Core.Bool.{true≢false}
 use Rattle.index.specs.declared.Form.TheVariants.{Both, Hidden}
-use Rattle.index.proofs.FormNumbers.{form_once}
+use Rattle.index.proofs.FormNumbers.{form_once, form_small}
 use native.Mathlib.Omega.{arith}
 use Prim.Native.Nat.{◌-◌}
 use Rattle.offers.proofs.Forms.{inside, part_beyond}
@@ -11,6 +11,9 @@ use Rattle.partners.proofs.Way.meet.Goals as goal
 
 pub turn_at-n-requires : goal.turn_at-n-requires
 turn_at-n-requires c = let T = c.requires.way.turns (c.loop-k.k - 1) (omega (arith, c.loop-k-test.true, c.loop-k.auto.k)) in (omega (arith, T.deep, inside T.part), inside (turn_inner T refl))
+
+pub form_at-requires : goal.form_at-requires
+form_at-requires c = let T = c.requires.way.turns (c.loop-k.k - 1) (omega (arith, c.loop-k-test.true, c.loop-k.auto.k)) in (omega (arith, c.turn_at-n.ensures.1), form_small (rw (sym c.turn_at-n.ensures.0) at T.part))
 
 pub loop-k-preserved-in-Hidden : goal.loop-k-preserved-in-Hidden
 loop-k-preserved-in-Hidden c = back_hidden c.requires c.loop-k.k (c.loop-k.k - 1) (omega (arith, c.loop-k-test.true)) (omega (arith, c.loop-k-test.true, c.loop-k.auto.k)) c.turn_at-n.ensures.0 c.loop-k.invariant (omega (arith, c.in-Hidden.ensures.0)) c.hide-label.ensures
