@@ -3,7 +3,7 @@ use mathlib.Core.Path.{◌≡◌, refl, sym, ap, ◌∙◌}
 use mathlib.Core.Bool.{Bool, true, false}
 use mathlib.Core.List.{List}
 use mathlib.Core.Logic.{◌≢◌}
-use Prim.Native.Nat.{ℕ, zero, suc, ◌+◌, ◌<◌, ◌≤◌}
+use Prim.Native.Nat.{ℕ, zero, suc, ◌+◌, ◌<◌, ◌≤◌, min}
 use native.Mathlib.Omega.{arith}
 use lib.ListN.{get_or}
 use Rattle.ccsk.specs.Term.{Term, Key, Node, nil, pre, cho, par, res}
@@ -58,8 +58,9 @@ line_small F A E n (cho t u) L = omega (arith, L.1, choice_small (holds t) (hold
 line_small F A E n (par t u) L = omega (arith, L.1)
 line_small F A E n (res a t) L = omega (arith, L.1)
 
-pub form_small : {R : Rows} {n : Node} → SomePartAt R n → get_or R.forms n 0 ≤ 6
-form_small {R} {n} S = line_small R.forms R.args R.ends n S.0 S.1.lines
+-- the form that is told where a part begins has the number that stands there
+pub form_told : {R : Rows} {n : Node} → SomePartAt R n → (f : Form) → number_of f ≡ min (get_or R.forms n 0) 6 → number_of f ≡ get_or R.forms n 0
+form_told {R} {n} S f e = omega (arith, e, line_small R.forms R.args R.ends n S.0 S.1.lines)
 
 -- a form that is none of five is one of the other two, of which both parts step
 pub one_of_two : {f : ℕ} → f ≢ 0 → f ≢ 1 → f ≢ 2 → f ≢ 6 → f ≢ 3 → (3 < f) × (f ≢ 6)

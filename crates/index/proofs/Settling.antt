@@ -1,9 +1,9 @@
 -- Settling the lines from the last node to the first: the terms that are due at a node are laid from it on, one after the other.
-use mathlib.Core.Path.{◌≡◌, refl, sym, subst, ◌∙◌}
+use mathlib.Core.Path.{◌≡◌, refl, sym, subst, ◌∙◌, ap}
 use mathlib.Core.Logic.{◌≢◌}
 use mathlib.Core.List.{List, [], ◌∷◌}
 use mathlib.Core.Bool.{Bool, true, false, not}
-use Prim.Native.Nat.{ℕ, zero, suc, ◌+◌, ◌≤◌, ◌<◌, ◌%◌}
+use Prim.Native.Nat.{ℕ, zero, suc, ◌+◌, ◌≤◌, ◌<◌, ◌%◌, min}
 use native.Mathlib.Omega.{arith}
 use borrow.Author.Tests.{ne_eqb}
 use lib.Dec.{eqb}
@@ -48,23 +48,17 @@ form_open false true = refl
 form_open false false = refl
 
 -- the form that was noted of a node of this kind is read again
-noted_form : (kind : Kind) (g : Form) (n : ℕ) → number_of g ≡ n → n ≡ number_of (keyless kind) → g ≡ keyless kind
-noted_form kind g n e d = form_once g (keyless kind) (e ∙ d)
-
--- a form stands in every line that is noted
-pub noted_small : (F A : List ℕ) (H : List Bool) (i : Node) (ts : List Term) → Line F A H i ts → get_or F i 0 ≤ 6
-unfolding head_kind
-noted_small F A H i [] l = absurd (omega (arith, l.some))
-noted_small F A H i (nil ∷ ts) l = omega (arith, l.form Nil refl)
-noted_small F A H i (pre a k t ∷ ts) l = omega (arith, l.form Prefix refl)
-noted_small F A H i (cho t u ∷ ts) l = omega (arith, l.form Choice refl)
-noted_small F A H i (par t u ∷ ts) l = omega (arith, l.form Parallel refl)
-noted_small F A H i (res a t ∷ ts) l = omega (arith, l.form Restriction refl)
+noted_form : (kind : Kind) (g : Form) (n : ℕ) → number_of g ≡ min n 6 → n ≡ number_of (keyless kind) → g ≡ keyless kind
+noted_form Nil g n e d = form_once g _ (e ∙ ap (λ x. min x 6) d)
+noted_form Prefix g n e d = form_once g _ (e ∙ ap (λ x. min x 6) d)
+noted_form Choice g n e d = form_once g _ (e ∙ ap (λ x. min x 6) d)
+noted_form Parallel g n e d = form_once g _ (e ∙ ap (λ x. min x 6) d)
+noted_form Restriction g n e d = form_once g _ (e ∙ ap (λ x. min x 6) d)
 
 -- What is written at node i, by the rows as they stand and the form g that was read there: `end` and `held` were written at the next node, and w
 -- is `end` again.
 pub record Written (F E : List ℕ) (H : List Bool) (i next end w : Node) (held : Bool) (g : Form) (f e : ℕ) (h : Bool) : Type 0 where
-  pub read : number_of g ≡ get_or F i 0
+  pub read : number_of g ≡ min (get_or F i 0) 6
   pub form : f ≡ number_of (form_of g (get_or H i false) held (get_or H (w % node_limit) false))
   pub keys : h ≡ holds_of g (get_or H i false) held (get_or H (w % node_limit) false)
   pub ends : e ≡ end_of g next end (get_or E (w % node_limit) 0)

@@ -2,7 +2,7 @@
 // them: the record is read from the first node to the last, then forms and ends are settled from the last node to the first.
 #![tactic(auto)]
 
-ghost use Rattle.std.specs.Prelude.{◌≡◌, ◌+◌, ◌<◌, ◌≤◌, length, get_or, replicate};
+ghost use Rattle.std.specs.Prelude.{◌≡◌, ◌+◌, ◌<◌, length, get_or, replicate, min};
 ghost use Rattle.format.specs.Limits.{node_limit};
 ghost use Rattle.shared.specs.Tells.{Tells};
 ghost use Rattle.index.specs.Lines.{Notes, keyless, own_form, choice_form, form_of, holds_of, end_of, Notable, Settles};
@@ -39,10 +39,9 @@ impl From<Form> for u8 {
     }
 }
 
-// The form with this number.
+// The form with this number. A greater one, which stands in no line of a part, counts as the last.
 fn with_number(number: u8) -> Form
-    requires { number ≤ 6 }
-    ensures { number_of result ≡ number }
+    ensures { number_of result ≡ min number 6 }
 {
     match number {
         0 => Form::Nothing,
@@ -51,8 +50,7 @@ fn with_number(number: u8) -> Form
         3 => Form::Second,
         4 => Form::Either,
         5 => Form::Both,
-        6 => Form::Hidden,
-        _ => unreachable!(),
+        _ => Form::Hidden,
     }
 }
 
@@ -184,10 +182,10 @@ impl Rows {
         self.forms[n] == u8::from(form)
     }
 
-    // The form of node n, where some form stands.
+    // The form of node n.
     pub fn form_at(&self, n: usize) -> Form
-        requires { (n < node_limit) × (get_or self.now.forms n 0 ≤ 6) }
-        ensures { (number_of result ≡ get_or self.now.forms n 0) × (n < node_limit) }
+        requires { n < node_limit }
+        ensures { (number_of result ≡ min (get_or self.now.forms n 0) 6) × (n < node_limit) }
     {
         with_number(self.forms[n])
     }

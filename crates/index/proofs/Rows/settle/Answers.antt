@@ -3,15 +3,11 @@ use mathlib.Core.Path.{refl, ap, ◌∙◌}
 use Prim.Native.Nat.{◌-◌}
 use native.Mathlib.Omega.{arith}
 use Rattle.index.specs.Whole.{number_of}
-use Rattle.index.proofs.Settling.{noted_small, start, onward, all_laid}
+use Rattle.index.proofs.Settling.{start, onward, all_laid}
 use Rattle.index.proofs.Rows.settle.Goals as goal
 
 pub loop-i-init : goal.loop-i-init
 loop-i-init c = record { few = c.requires.2.few; args = refl; settling = λ t A N. start t A c.args.n c.args.self.now.forms c.args.self.now.ends c.args.holds.now N }
-
-pub with_number-form-requires : goal.with_number-form-requires
-with_number-form-requires c = let S = c.loop-i.invariant.settling c.requires.0 c.requires.1 c.requires.2 in
-    noted_small c.loop-i.self.forms c.requires.1 c.loop-i.holds (c.loop-i.i - 1) _ (S.lines (c.loop-i.i - 1) (omega (arith, c.loop-i-test.true)))
 
 pub loop-i-preserved : goal.loop-i-preserved
 loop-i-preserved c = record {
