@@ -1,15 +1,13 @@
 -- Forms against their numbers, and a node of two parts.
 use mathlib.Core.Path.{◌≡◌, refl, sym, ap, ◌∙◌}
-use mathlib.Core.Bool.{Bool, true, false}
 use mathlib.Core.List.{List}
 use mathlib.Core.Logic.{◌≢◌}
 use Prim.Native.Nat.{ℕ, zero, suc, ◌+◌, ◌<◌, ◌≤◌, min}
 use native.Mathlib.Omega.{arith}
 use lib.ListN.{get_or}
-use Rattle.ccsk.specs.Term.{Term, Key, Node, nil, pre, cho, par, res}
-use Rattle.moves.specs.Move.{holds}
-use Rattle.offers.specs.Forms.{prefix_form, form_of_choice, Laid}
-use Rattle.offers.proofs.Forms.{part_below, part_beyond}
+use Rattle.ccsk.specs.Term.{Term, Node}
+use Rattle.offers.proofs.Forms as part
+use Rattle.offers.proofs.Forms.{nothing, own, next, second, either, both, hidden, form, part_below, part_beyond}
 use Rattle.index.specs.declared.Rows.{Rows}
 use Rattle.index.specs.declared.Form.{Form}
 use Rattle.index.specs.declared.Form.TheVariants.{Nothing, Own, Next, Second, Either, Both, Hidden}
@@ -39,28 +37,19 @@ with_number_of Hidden = refl
 pub form_once : (f g : Form) → number_of f ≡ number_of g → f ≡ g
 form_once f g e = sym (with_number_of f) ∙ ap with_number e ∙ with_number_of g
 
--- no line of a part has a number above 6
-prefix_small : (k : Key) (b : Bool) → prefix_form k b ≤ 6
-prefix_small zero true = omega arith
-prefix_small zero false = omega arith
-prefix_small (suc k) b = omega arith
-
-choice_small : (b c : Bool) → form_of_choice b c ≤ 6
-choice_small true true = omega arith
-choice_small true false = omega arith
-choice_small false true = omega arith
-choice_small false false = omega arith
-
-line_small : (F A E : List ℕ) (n : Node) (t : Term) → Laid F A E n t → get_or F n 0 ≤ 6
-line_small F A E n nil L = omega (arith, L.1)
-line_small F A E n (pre a k t) L = omega (arith, L.1, prefix_small k (holds t))
-line_small F A E n (cho t u) L = omega (arith, L.1, choice_small (holds t) (holds u))
-line_small F A E n (par t u) L = omega (arith, L.1)
-line_small F A E n (res a t) L = omega (arith, L.1)
+-- no form of a part has a number above 6
+small : {F A E : List ℕ} {n : Node} {h : ℕ} {t : Term} → part.Form F A E n h t → h ≤ 6
+small (nothing s) = omega arith
+small (own e c s) = omega arith
+small (next P x) = omega arith
+small (second m P e x) = omega arith
+small (either P e x y) = omega arith
+small (both P e x y) = omega arith
+small (hidden e c x) = omega arith
 
 -- the form that is told where a part begins has the number that stands there
 pub form_told : {R : Rows} {n : Node} → SomePartAt R n → (f : Form) → number_of f ≡ min (get_or R.forms n 0) 6 → number_of f ≡ get_or R.forms n 0
-form_told {R} {n} S f e = omega (arith, e, line_small R.forms R.args R.ends n S.0 S.1.lines)
+form_told {n = n} S f e = omega (arith, e, small (form n S.0 S.1))
 
 -- a form that is none of five is one of the other two, of which both parts step
 pub one_of_two : {f : ℕ} → f ≢ 0 → f ≢ 1 → f ≢ 2 → f ≢ 6 → f ≢ 3 → (3 < f) × (f ≢ 6)

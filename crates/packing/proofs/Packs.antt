@@ -26,10 +26,11 @@ pack_both r c n b row e f = rw e (packed f)
 pub pack_first : {P : ℕ → ℕ → Node → Node → Label → Type 0} (r c n p q l : ℕ) → r ≡ answer c n l p q → P c n p q l → PackedFirst P r
 pack_first r c n p q l e f = rw e (packed f)
 
--- an operation's answer as it is packed, by its refusal number and its values
+-- a refusal stands for its number
 abbrev pub Numbered : Refusal → ℕ → Type 0
 Numbered r c = c ≡ number r
 
+-- an operation's answer as it is packed, by its refusal number and its values
 pub step_told : (given : Result Label Refusal) (r : ℕ) → PacksStep Numbered given r → r ≡ step_answer (refusal given) (value given)
 step_told (Ok l) r e = e
 step_told (Err x) r e = rw (e.2, e.1) refl
