@@ -1,7 +1,7 @@
 -- Forms against their numbers, and a node of two parts.
 use mathlib.Core.Path.{◌≡◌, refl, sym, ap, ◌∙◌}
 use mathlib.Core.List.{List}
-use mathlib.Core.Logic.{◌≢◌}
+use mathlib.Core.Logic.{◌⊎◌, inl, inr, ⊎_elim, ◌≢◌}
 use Prim.Native.Nat.{ℕ, zero, suc, ◌+◌, ◌<◌, ◌≤◌, min}
 use native.Mathlib.Omega.{arith}
 use lib.ListN.{get_or}
@@ -51,9 +51,34 @@ small (hidden e c x) = omega arith
 pub form_told : {R : Rows} {n : Node} → SomePartAt R n → (f : Form) → number_of f ≡ min (get_or R.forms n 0) 6 → number_of f ≡ get_or R.forms n 0
 form_told {n = n} S f e = omega (arith, e, small (form n S.0 S.1))
 
--- a form that is none of five is one of the other two, of which both parts step
-pub one_of_two : {f : ℕ} → f ≢ 0 → f ≢ 1 → f ≢ 2 → f ≢ 6 → f ≢ 3 → (3 < f) × (f ≢ 6)
-one_of_two a b c d e = (omega arith, d)
+-- every form but these two has a number from 2 on
+pub deeper : (f : Form) → f ≢ Nothing → f ≢ Own → 2 ≤ number_of f
+deeper Nothing a b = absurd (a refl)
+deeper Own a b = absurd (b refl)
+deeper Next a b = omega arith
+deeper Second a b = omega arith
+deeper Either a b = omega arith
+deeper Both a b = omega arith
+deeper Hidden a b = omega arith
+
+-- a form that is none of five is one of the other two
+pub one_of_two : (f : Form) → f ≢ Nothing → f ≢ Own → f ≢ Next → f ≢ Hidden → f ≢ Second → (f ≡ Either) ⊎ (f ≡ Both)
+one_of_two Nothing a b c d e = absurd (a refl)
+one_of_two Own a b c d e = absurd (b refl)
+one_of_two Next a b c d e = absurd (c refl)
+one_of_two Second a b c d e = absurd (e refl)
+one_of_two Either a b c d e = inl refl
+one_of_two Both a b c d e = inr refl
+one_of_two Hidden a b c d e = absurd (d refl)
+
+-- A node of two parts that both step: its number.
+module _ (R : Rows) {n : Node} (S : SomePartAt R n) {f : Form} (e : number_of f ≡ get_or R.forms n 0) (w : (f ≡ Either) ⊎ (f ≡ Both)) where
+  pub of_two : (3 < get_or R.forms n 0) × (get_or R.forms n 0 ≢ 6)
+  of_two = rw (← e) (⊎_elim (λ z. rw z (omega arith, λ q. omega arith)) (λ z. rw z (omega arith, λ q. omega arith)) w)
+
+-- of the number of a form: where it is none of five, the form is one of the other two, of which both parts step
+pub none_of_five : {f : ℕ} → f ≢ 0 → f ≢ 1 → f ≢ 2 → f ≢ 6 → f ≢ 3 → (3 < f) × (f ≢ 6)
+none_of_five a b c d e = (omega arith, d)
 
 -- where the parts of a node of two parts begin
 module _ (R : Rows) {n : Node} (S : SomePartAt R n) (w : (3 < get_or R.forms n 0) × (get_or R.forms n 0 ≢ 6)) where

@@ -28,7 +28,8 @@ use Rattle.findings.specs.declared.Ask.TheVariants.{Undo, Forward}
 use Rattle.findings.specs.declared.Places.TheVariants.{Zero, One, Two, More}
 use Rattle.findings.specs.declared.Seen.{Seen}
 use Rattle.findings.specs.declared.Places.{Places}
-use Rattle.findings.specs.Seen.{move_of, label_of, spots_of, places_of}
+use Rattle.findings.specs.declared.Ask.{Ask}
+use Rattle.findings.specs.Seen.{Found, move_of, label_of, places_of}
 use Rattle.survey.specs.Survey.{Looked}
 use Rattle.plans.specs.Plan.{Asked, ForwardPlan, UndoPlan}
 
@@ -93,7 +94,11 @@ no_step Still l e g = cc
 no_step (Step k) l e g = cc
 no_step Stuck l e g = cc
 
-module _ (s : List ℕ) (p q m : ℕ) (x : Seen) (w : Looked s (Forward p q m) (Ok x)) where
+-- what is found of a record, without the exact number of its chosen prefixes
+pub seen_in : (s : List ℕ) (ask : Ask) (x : Seen) → Looked s ask (Ok x) → (t : Term) × Reads s t × Found ask 0 0 t x
+seen_in s ask x w = (w.0, w.1, w.2)
+
+module _ (s : List ℕ) (p q m : ℕ) (x : Seen) (w : (t : Term) × Reads s t × Found (Forward p q m) 0 0 t x) where
   abbrev t : Term
   t = w.0
 
@@ -104,12 +109,9 @@ module _ (s : List ℕ) (p q m : ℕ) (x : Seen) (w : Looked s (Forward p q m) (
   pub forward_zero : m ≡ 0 → ForwardPlan s p q m (Err KeyZero)
   forward_zero e = key_zero w.1 e
 
-  module _ (h : m ≢ 0) (found : Places) (told : (l : List ℕ) → x.spots ≡ spots_of l → found ≡ places_of l) where
+  module _ (h : m ≢ 0) (found : Places) (are : found ≡ places_of here) where
     pos : 0 < m
     pos = omega arith
-
-    are : found ≡ places_of here
-    are = told here w.2.spots
 
     -- refusal 4
     pub forward_not : (r : Refusal) → Asked found p q (Err r) → ForwardPlan s p q m (Err r)
@@ -155,7 +157,7 @@ module _ (s : List ℕ) (p q m : ℕ) (x : Seen) (w : Looked s (Forward p q m) (
                 forward_done_two s t p q m l i j encoded w.1 pos z (sym w.2.stands ∙ f) (sym w.2.moved ∙ step_of x.moved l (label_from _ _ l g)) n.0 n.1 n.2,
               )
 
-module _ (s : List ℕ) (m : ℕ) (x : Seen) (w : Looked s (Undo m) (Ok x)) where
+module _ (s : List ℕ) (m : ℕ) (x : Seen) (w : (t : Term) × Reads s t × Found (Undo m) 0 0 t x) where
   abbrev u : Term
   u = w.0
 
@@ -166,12 +168,9 @@ module _ (s : List ℕ) (m : ℕ) (x : Seen) (w : Looked s (Undo m) (Ok x)) wher
   pub undo_zero : m ≡ 0 → UndoPlan s m (Err KeyZero)
   undo_zero e = key_zero w.1 e
 
-  module _ (h : m ≢ 0) (found : Places) (told : (l : List ℕ) → x.spots ≡ spots_of l → found ≡ places_of l) where
+  module _ (h : m ≢ 0) (found : Places) (stand : found ≡ places_of there) where
     above : 0 < m
     above = omega arith
-
-    stand : found ≡ places_of there
-    stand = told there w.2.spots
 
     -- refusal 7
     pub undo_absent : found ≡ Zero → UndoPlan s m (Err KeyAbsent)

@@ -6,7 +6,7 @@ use lib.ListN.{get_or}
 use Rattle.offers.proofs.Forms.{inside, next_inside, part_below, part_beyond, hidden_name, part_end}
 use Rattle.index.specs.declared.Form.TheVariants.{Nothing, Own, Next, Second, Hidden}
 use Rattle.index.specs.Whole.{number_of}
-use Rattle.index.proofs.FormNumbers.{one_of_two, first_of_two, second_of_two}
+use Rattle.index.proofs.FormNumbers.{none_of_five, first_of_two, second_of_two}
 use Rattle.showing.proofs.Showing.{lists_nothing, lists_own, lists_next, lists_second, lists_hidden, lists_two, lists_beyond, lists_before}
 use Rattle.showing.proofs.+list.Goals as goal
 
@@ -62,13 +62,13 @@ down-preserved-then-has_form-5 t c = let z : get_or c.args.rows.now.forms c.down
 }
 
 pub shows_none-requires : goal.shows_none-requires
-shows_none-requires t c = let w = one_of_two (rw c.if-has_form.false at c.has_form.ensures.0) (rw c.if-has_form-2.false at c.has_form-in-down.ensures.0) (rw c.if-has_form-3.false at c.has_form-in-down-2.ensures.0) (rw c.if-has_form-4.false at c.has_form-in-down-3.ensures.0) (rw c.if-has_form-5.false at c.has_form-in-down-4.ensures.0) in inside (first_of_two c.args.rows.now c.down.invariant.part w)
+shows_none-requires t c = let w = none_of_five (rw c.if-has_form.false at c.has_form.ensures.0) (rw c.if-has_form-2.false at c.has_form-in-down.ensures.0) (rw c.if-has_form-3.false at c.has_form-in-down-2.ensures.0) (rw c.if-has_form-4.false at c.has_form-in-down-3.ensures.0) (rw c.if-has_form-5.false at c.has_form-in-down-4.ensures.0) in inside (first_of_two c.args.rows.now c.down.invariant.part w)
 
 pub down-smaller-then-shows_none : goal.down-smaller-then-shows_none
-down-smaller-then-shows_none t c = let w = one_of_two (rw c.if-has_form.false at c.has_form.ensures.0) (rw c.if-has_form-2.false at c.has_form-in-down.ensures.0) (rw c.if-has_form-3.false at c.has_form-in-down-2.ensures.0) (rw c.if-has_form-4.false at c.has_form-in-down-3.ensures.0) (rw c.if-has_form-5.false at c.has_form-in-down-4.ensures.0) in let B = second_of_two c.args.rows.now c.down.invariant.part w c.second_part-second.ensures in omega (arith, inside c.down.invariant.part, B.1)
+down-smaller-then-shows_none t c = let w = none_of_five (rw c.if-has_form.false at c.has_form.ensures.0) (rw c.if-has_form-2.false at c.has_form-in-down.ensures.0) (rw c.if-has_form-3.false at c.has_form-in-down-2.ensures.0) (rw c.if-has_form-4.false at c.has_form-in-down-3.ensures.0) (rw c.if-has_form-5.false at c.has_form-in-down-4.ensures.0) in let B = second_of_two c.args.rows.now c.down.invariant.part w c.second_part-second.ensures in omega (arith, inside c.down.invariant.part, B.1)
 
 pub down-preserved-then-shows_none : goal.down-preserved-then-shows_none
-down-preserved-then-shows_none t c = let w = one_of_two (rw c.if-has_form.false at c.has_form.ensures.0) (rw c.if-has_form-2.false at c.has_form-in-down.ensures.0) (rw c.if-has_form-3.false at c.has_form-in-down-2.ensures.0) (rw c.if-has_form-4.false at c.has_form-in-down-3.ensures.0) (rw c.if-has_form-5.false at c.has_form-in-down-4.ensures.0) in let B = second_of_two c.args.rows.now c.down.invariant.part w c.second_part-second.ensures in record {
+down-preserved-then-shows_none t c = let w = none_of_five (rw c.if-has_form.false at c.has_form.ensures.0) (rw c.if-has_form-2.false at c.has_form-in-down.ensures.0) (rw c.if-has_form-3.false at c.has_form-in-down-2.ensures.0) (rw c.if-has_form-4.false at c.has_form-in-down-3.ensures.0) (rw c.if-has_form-5.false at c.has_form-in-down-4.ensures.0) in let B = second_of_two c.args.rows.now c.down.invariant.part w c.second_part-second.ensures in record {
   part = B.0;
   few = omega (arith, c.down.invariant.few, B.1);
   later = omega (arith, c.down.invariant.later, B.1);
@@ -76,10 +76,10 @@ down-preserved-then-shows_none t c = let w = one_of_two (rw c.if-has_form.false 
 }
 
 pub shows_none-requires-in-down : goal.shows_none-requires-in-down
-shows_none-requires-in-down t c = let w = one_of_two (rw c.if-has_form.false at c.has_form.ensures.0) (rw c.if-has_form-2.false at c.has_form-in-down.ensures.0) (rw c.if-has_form-3.false at c.has_form-in-down-2.ensures.0) (rw c.if-has_form-4.false at c.has_form-in-down-3.ensures.0) (rw c.if-has_form-5.false at c.has_form-in-down-4.ensures.0) in omega (arith, inside (first_of_two c.args.rows.now c.down.invariant.part w), inside (second_of_two c.args.rows.now c.down.invariant.part w c.second_part-second.ensures).0)
+shows_none-requires-in-down t c = let w = none_of_five (rw c.if-has_form.false at c.has_form.ensures.0) (rw c.if-has_form-2.false at c.has_form-in-down.ensures.0) (rw c.if-has_form-3.false at c.has_form-in-down-2.ensures.0) (rw c.if-has_form-4.false at c.has_form-in-down-3.ensures.0) (rw c.if-has_form-5.false at c.has_form-in-down-4.ensures.0) in omega (arith, inside (first_of_two c.args.rows.now c.down.invariant.part w), inside (second_of_two c.args.rows.now c.down.invariant.part w c.second_part-second.ensures).0)
 
 pub down-preserved-then-shows_none-2 : goal.down-preserved-then-shows_none-2
-down-preserved-then-shows_none-2 t c = let w = one_of_two (rw c.if-has_form.false at c.has_form.ensures.0) (rw c.if-has_form-2.false at c.has_form-in-down.ensures.0) (rw c.if-has_form-3.false at c.has_form-in-down-2.ensures.0) (rw c.if-has_form-4.false at c.has_form-in-down-3.ensures.0) (rw c.if-has_form-5.false at c.has_form-in-down-4.ensures.0) in let D = first_of_two c.args.rows.now c.down.invariant.part w in record {
+down-preserved-then-shows_none-2 t c = let w = none_of_five (rw c.if-has_form.false at c.has_form.ensures.0) (rw c.if-has_form-2.false at c.has_form-in-down.ensures.0) (rw c.if-has_form-3.false at c.has_form-in-down-2.ensures.0) (rw c.if-has_form-4.false at c.has_form-in-down-3.ensures.0) (rw c.if-has_form-5.false at c.has_form-in-down-4.ensures.0) in let D = first_of_two c.args.rows.now c.down.invariant.part w in record {
   part = D;
   few = omega (arith, c.down.invariant.few);
   later = omega (arith, c.down.invariant.later);
@@ -87,13 +87,13 @@ down-preserved-then-shows_none-2 t c = let w = one_of_two (rw c.if-has_form.fals
 }
 
 pub list-requires : goal.list-requires
-list-requires t c = let w = one_of_two (rw c.if-has_form.false at c.has_form.ensures.0) (rw c.if-has_form-2.false at c.has_form-in-down.ensures.0) (rw c.if-has_form-3.false at c.has_form-in-down-2.ensures.0) (rw c.if-has_form-4.false at c.has_form-in-down-3.ensures.0) (rw c.if-has_form-5.false at c.has_form-in-down-4.ensures.0) in (omega (arith, c.decreases, inside c.down.invariant.part, c.down.invariant.later), (first_of_two c.args.rows.now c.down.invariant.part w, omega (arith, c.down.invariant.few)))
+list-requires t c = let w = none_of_five (rw c.if-has_form.false at c.has_form.ensures.0) (rw c.if-has_form-2.false at c.has_form-in-down.ensures.0) (rw c.if-has_form-3.false at c.has_form-in-down-2.ensures.0) (rw c.if-has_form-4.false at c.has_form-in-down-3.ensures.0) (rw c.if-has_form-5.false at c.has_form-in-down-4.ensures.0) in (omega (arith, c.decreases, inside c.down.invariant.part, c.down.invariant.later), (first_of_two c.args.rows.now c.down.invariant.part w, omega (arith, c.down.invariant.few)))
 
 pub down-smaller : goal.down-smaller
-down-smaller t c = let w = one_of_two (rw c.if-has_form.false at c.has_form.ensures.0) (rw c.if-has_form-2.false at c.has_form-in-down.ensures.0) (rw c.if-has_form-3.false at c.has_form-in-down-2.ensures.0) (rw c.if-has_form-4.false at c.has_form-in-down-3.ensures.0) (rw c.if-has_form-5.false at c.has_form-in-down-4.ensures.0) in let B = second_of_two c.args.rows.now c.down.invariant.part w c.second_part-second.ensures in omega (arith, inside c.down.invariant.part, B.1)
+down-smaller t c = let w = none_of_five (rw c.if-has_form.false at c.has_form.ensures.0) (rw c.if-has_form-2.false at c.has_form-in-down.ensures.0) (rw c.if-has_form-3.false at c.has_form-in-down-2.ensures.0) (rw c.if-has_form-4.false at c.has_form-in-down-3.ensures.0) (rw c.if-has_form-5.false at c.has_form-in-down-4.ensures.0) in let B = second_of_two c.args.rows.now c.down.invariant.part w c.second_part-second.ensures in omega (arith, inside c.down.invariant.part, B.1)
 
 pub down-preserved : goal.down-preserved
-down-preserved t c = let w = one_of_two (rw c.if-has_form.false at c.has_form.ensures.0) (rw c.if-has_form-2.false at c.has_form-in-down.ensures.0) (rw c.if-has_form-3.false at c.has_form-in-down-2.ensures.0) (rw c.if-has_form-4.false at c.has_form-in-down-3.ensures.0) (rw c.if-has_form-5.false at c.has_form-in-down-4.ensures.0) in let D = first_of_two c.args.rows.now c.down.invariant.part w in let B = second_of_two c.args.rows.now c.down.invariant.part w c.second_part-second.ensures in record {
+down-preserved t c = let w = none_of_five (rw c.if-has_form.false at c.has_form.ensures.0) (rw c.if-has_form-2.false at c.has_form-in-down.ensures.0) (rw c.if-has_form-3.false at c.has_form-in-down-2.ensures.0) (rw c.if-has_form-4.false at c.has_form-in-down-3.ensures.0) (rw c.if-has_form-5.false at c.has_form-in-down-4.ensures.0) in let D = first_of_two c.args.rows.now c.down.invariant.part w in let B = second_of_two c.args.rows.now c.down.invariant.part w c.second_part-second.ensures in record {
   part = B.0;
   few = omega (arith, c.list.ensures.few D.0 D.1, part_end D.0 D.1, c.second_part-second.ensures);
   later = omega (arith, c.down.invariant.later, B.1);

@@ -6,7 +6,7 @@ use lib.ListN.{get_or}
 use Rattle.offers.proofs.Forms.{form, two_parts, inside, next_inside, part_below, part_beyond, hidden_name}
 use Rattle.index.specs.declared.Form.TheVariants.{Nothing, Own, Next, Second, Hidden}
 use Rattle.index.specs.Whole.{number_of}
-use Rattle.index.proofs.FormNumbers.{one_of_two, first_of_two, second_of_two, form_told}
+use Rattle.index.proofs.FormNumbers.{none_of_five, first_of_two, second_of_two, form_told}
 use Rattle.wanted.proofs.Marking.{marked_nothing, marked_own, marked_next, marked_second, marked_hidden, marked_two, marks_noted, marks_passed}
 use Rattle.wanted.proofs.+mark.Goals as goal
 
@@ -47,15 +47,15 @@ pub returns-then-has_form-5 : goal.returns-then-has_form-5
 returns-then-has_form-5 t c = let z : get_or c.args.rows.now.forms c.args.n 0 ≡ number_of Second = rw c.if-has_form-5.true at c.has_form-5.ensures.0 in marks_passed (λ t P. marked_second (rw z at (form c.args.n t P)) c.second_part-second.ensures c.mark-then-has_form-5.ensures.part) c.mark-then-has_form-5.ensures
 
 pub mark-requires-2 : goal.mark-requires-2
-mark-requires-2 t c = let w = one_of_two (rw c.if-has_form.false at c.has_form.ensures.0) (rw c.if-has_form-2.false at c.has_form-2.ensures.0) (rw c.if-has_form-3.false at c.has_form-3.ensures.0) (rw c.if-has_form-4.false at c.has_form-4.ensures.0) (rw c.if-has_form-5.false at c.has_form-5.ensures.0) in let B = second_of_two c.args.rows.now c.requires.some_part w c.second_part-second.ensures in (omega (arith, c.decreases, B.1, inside B.0), (B.0, c.requires.room))
+mark-requires-2 t c = let w = none_of_five (rw c.if-has_form.false at c.has_form.ensures.0) (rw c.if-has_form-2.false at c.has_form-2.ensures.0) (rw c.if-has_form-3.false at c.has_form-3.ensures.0) (rw c.if-has_form-4.false at c.has_form-4.ensures.0) (rw c.if-has_form-5.false at c.has_form-5.ensures.0) in let B = second_of_two c.args.rows.now c.requires.some_part w c.second_part-second.ensures in (omega (arith, c.decreases, B.1, inside B.0), (B.0, c.requires.room))
 
 pub form_at-form-requires : goal.form_at-form-requires
 form_at-form-requires t c = inside c.requires.some_part
 
 pub mark-requires-3 : goal.mark-requires-3
-mark-requires-3 t c = let w = one_of_two (rw c.if-has_form.false at c.has_form.ensures.0) (rw c.if-has_form-2.false at c.has_form-2.ensures.0) (rw c.if-has_form-3.false at c.has_form-3.ensures.0) (rw c.if-has_form-4.false at c.has_form-4.ensures.0) (rw c.if-has_form-5.false at c.has_form-5.ensures.0) in (omega (arith, c.decreases, inside c.requires.some_part), (first_of_two c.args.rows.now c.requires.some_part w, omega (arith, c.mark-2.ensures.long, c.requires.room)))
+mark-requires-3 t c = let w = none_of_five (rw c.if-has_form.false at c.has_form.ensures.0) (rw c.if-has_form-2.false at c.has_form-2.ensures.0) (rw c.if-has_form-3.false at c.has_form-3.ensures.0) (rw c.if-has_form-4.false at c.has_form-4.ensures.0) (rw c.if-has_form-5.false at c.has_form-5.ensures.0) in (omega (arith, c.decreases, inside c.requires.some_part), (first_of_two c.args.rows.now c.requires.some_part w, omega (arith, c.mark-2.ensures.long, c.requires.room)))
 
 pub returns : goal.returns
-returns t c = let w = one_of_two (rw c.if-has_form.false at c.has_form.ensures.0) (rw c.if-has_form-2.false at c.has_form-2.ensures.0) (rw c.if-has_form-3.false at c.has_form-3.ensures.0) (rw c.if-has_form-4.false at c.has_form-4.ensures.0) (rw c.if-has_form-5.false at c.has_form-5.ensures.0) in
+returns t c = let w = none_of_five (rw c.if-has_form.false at c.has_form.ensures.0) (rw c.if-has_form-2.false at c.has_form-2.ensures.0) (rw c.if-has_form-3.false at c.has_form-3.ensures.0) (rw c.if-has_form-4.false at c.has_form-4.ensures.0) (rw c.if-has_form-5.false at c.has_form-5.ensures.0) in
     marks_noted (λ t P. marked_two _ c.second_part-second.ensures c.mark-2.ensures.part c.asked-below.ensures c.mark-3.ensures.part c.joined.ensures (two_parts (form c.args.n t P) w.0 w.1) (form_told c.requires.some_part _ c.form_at-form.ensures.0))
     (λ z. c.mark-3.ensures.covers (c.mark-2.ensures.covers z)) (c.mark-3.ensures.room ∙ c.mark-2.ensures.room) (c.mark-3.ensures.long ∙ c.mark-2.ensures.long) c.show-2.ensures

@@ -7,7 +7,7 @@ use mathlib.Core.Logic.{inl, inr, ◌≢◌}
 use native.Mathlib.Omega.{arith}
 use Prim.Native.Nat.{◌-◌, ◌+◌}
 use Rattle.offers.proofs.Forms.{inside, next_inside, part_beyond}
-use Rattle.index.proofs.FormNumbers.{one_of_two, second_of_two}
+use Rattle.index.proofs.FormNumbers.{none_of_five, second_of_two}
 use Rattle.partners.proofs.Mates.{meets_nothing, meets_own, own_label}
 use Rattle.partners.proofs.Ways.{turn_inner, way_back, way_next, way_second, way_turn, left_turn, all_left}
 use Rattle.partners.proofs.Way.lead.Goals as goal
@@ -56,13 +56,13 @@ pub down-preserved-then-has_form-5 : goal.down-preserved-then-has_form-5
 down-preserved-then-has_form-5 c = let z : get_or c.args.rows.now.forms c.down.self.node 0 ≡ number_of Second = rw c.if-has_form-5.true at c.has_form-in-down-4.ensures.0 in record { way = way_second c.down.invariant.way c.second_part-second.ensures (omega (arith, z)) (λ q. omega (arith, z)) (inl (omega (arith, z))); left = c.down.invariant.left }
 
 pub down-smaller-then-second-i : goal.down-smaller-then-second-i
-down-smaller-then-second-i c = let w = one_of_two (rw c.if-has_form.false at c.has_form.ensures.0) (rw c.if-has_form-2.false at c.has_form-in-down.ensures.0) (rw c.if-has_form-3.false at c.has_form-in-down-2.ensures.0) (rw c.if-has_form-4.false at c.has_form-in-down-3.ensures.0) (rw c.if-has_form-5.false at c.has_form-in-down-4.ensures.0) in omega (arith, inside c.down.invariant.way.part, (second_of_two c.args.rows.now c.down.invariant.way.part w c.second_part-second.ensures).1)
+down-smaller-then-second-i c = let w = none_of_five (rw c.if-has_form.false at c.has_form.ensures.0) (rw c.if-has_form-2.false at c.has_form-in-down.ensures.0) (rw c.if-has_form-3.false at c.has_form-in-down-2.ensures.0) (rw c.if-has_form-4.false at c.has_form-in-down-3.ensures.0) (rw c.if-has_form-5.false at c.has_form-in-down-4.ensures.0) in omega (arith, inside c.down.invariant.way.part, (second_of_two c.args.rows.now c.down.invariant.way.part w c.second_part-second.ensures).1)
 
 pub down-preserved-then-second-i : goal.down-preserved-then-second-i
-down-preserved-then-second-i c = let w = one_of_two (rw c.if-has_form.false at c.has_form.ensures.0) (rw c.if-has_form-2.false at c.has_form-in-down.ensures.0) (rw c.if-has_form-3.false at c.has_form-in-down-2.ensures.0) (rw c.if-has_form-4.false at c.has_form-in-down-3.ensures.0) (rw c.if-has_form-5.false at c.has_form-in-down-4.ensures.0) in record { way = way_second c.down.invariant.way c.second_part-second.ensures (omega (arith, w.0)) w.1 (inr c.if-second-i.true); left = c.down.invariant.left }
+down-preserved-then-second-i c = let w = none_of_five (rw c.if-has_form.false at c.has_form.ensures.0) (rw c.if-has_form-2.false at c.has_form-in-down.ensures.0) (rw c.if-has_form-3.false at c.has_form-in-down-2.ensures.0) (rw c.if-has_form-4.false at c.has_form-in-down-3.ensures.0) (rw c.if-has_form-5.false at c.has_form-in-down-4.ensures.0) in record { way = way_second c.down.invariant.way c.second_part-second.ensures (omega (arith, w.0)) w.1 (inr c.if-second-i.true); left = c.down.invariant.left }
 
 pub down-preserved : goal.down-preserved
-down-preserved c = let w = one_of_two (rw c.if-has_form.false at c.has_form.ensures.0) (rw c.if-has_form-2.false at c.has_form-in-down.ensures.0) (rw c.if-has_form-3.false at c.has_form-in-down-2.ensures.0) (rw c.if-has_form-4.false at c.has_form-in-down-3.ensures.0) (rw c.if-has_form-5.false at c.has_form-in-down-4.ensures.0) in rw (c.push-in-down.ensures.row, c.push-in-down.ensures.count) (record {
+down-preserved c = let w = none_of_five (rw c.if-has_form.false at c.has_form.ensures.0) (rw c.if-has_form-2.false at c.has_form-in-down.ensures.0) (rw c.if-has_form-3.false at c.has_form-in-down-2.ensures.0) (rw c.if-has_form-4.false at c.has_form-in-down-3.ensures.0) (rw c.if-has_form-5.false at c.has_form-in-down-4.ensures.0) in rw (c.push-in-down.ensures.row, c.push-in-down.ensures.count) (record {
   way = way_turn c.push-in-down.ensures.room (omega arith) c.down.invariant.way w.0;
   left = left_turn c.args.rows.now c.down.self.turns.row c.args.i c.down.self.node c.down.self.turns.count (c.down.self.turns.count + 1) c.push-in-down.ensures.room (omega arith) c.down.invariant.left (λ g. omega (arith, c.second_part-second.ensures, c.if-second-i.false));
 })
