@@ -11,7 +11,7 @@ pub returns-in_err-seen : goal.returns-in_err-seen
 returns-in_err-seen c = let p = err_from_is_err_and c.from_residual.result c.from_residual.ensures.1 in rw (p.1, p.2) (unreadable c.in_err-seen.ensures)
 
 pub returns-then-key-eq0 : goal.returns-then-key-eq0
-returns-then-key-eq0 c = let a = c.args in undo_zero a.s.now a.key _ (seen_in _ _ _ c.in_ok-seen.ensures) c.if-key-eq0.true
+returns-then-key-eq0 c = let a = c.args in undo_zero a.s.now a.key _ (seen_in a.s.now _ _ c.in_ok-seen.ensures) c.if-key-eq0.true
 
 pub returns-in-Zero : goal.returns-in-Zero
 returns-in-Zero c = let a = c.args in let w = seen_in a.s.now _ _ c.in_ok-seen.ensures in undo_absent a.s.now a.key _ w c.if-key-eq0.false _ (c.places.ensures _ w.2.spots) c.in-Zero.is
